@@ -1,0 +1,9 @@
+-- Laws that belong to no one function, and that the layers above cite.
+pub mod Only
+pub mod Refusals
+pub mod Tests
+pub mod Sides
+pub mod Table
+pub mod Over
+pub mod LentLaws
+pub mod Decimal

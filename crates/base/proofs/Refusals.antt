@@ -1,0 +1,18 @@
+-- Laws of a table of refusals. Assumes nothing.
+use mathlib.Core.Path.{_≡_, refl, sym}
+use native.Mathlib.Omega.{arith}
+use mathlib.Core.Bool.{Bool, true, false}
+use mathlib.Core.List.{List, _∷_}
+use Prim.Native.Nat.{ℕ, zero, suc}
+use Rattle.base.specs.Numbers.{Numbers, numbers, Row, row, first}
+
+-- a refusal is not the answer 0
+pub refused : (n : ℕ) (u v : List ℕ) → numbers (suc n) u ≡ numbers 0 v → ⊥
+refused n u v e = let z : suc n ≡ 0 = cc in omega arith
+
+-- where nothing is refused, a row's test fails, and nothing is refused by the rows below
+pub passed : (b : Bool) (n : ℕ) (u v : List ℕ) (rows : List Row) (last : Numbers) → numbers 0 v ≡ first (row b (numbers (suc n) u) ∷ rows) last
+    → (b ≡ false) × (numbers 0 v ≡ first rows last)
+unfolding first
+passed true n u v rows last e = absurd (refused n u v (sym e))
+passed false n u v rows last e = (refl, e)

@@ -1,0 +1,6 @@
+-- What every layer's contracts cite.
+pub mod Numbers
+pub mod Lent
+pub mod Text
+pub mod Decides
+pub mod Limits

@@ -1,0 +1,24 @@
+-- Answers in document 01's numbers, and its table of refusals as data. Assumes nothing.
+use mathlib.Core.Bool.{Bool, true, false}
+use mathlib.Core.List.{List, [], _∷_}
+use Prim.Native.Nat.{ℕ, zero, suc}
+
+-- "A refusal returns its number, a place where named, zeros elsewhere": the number, 0 where the call is
+-- done, and the values that go with it
+pub data Numbers : Type 0 where
+  numbers : ℕ → List ℕ → Numbers
+
+-- a row of a call's table of refusals: given exactly when this holds; what is answered then
+pub data Row : Type 0 where
+  row : Bool → Numbers → Row
+
+-- the rows are tested in their order: the first that holds, and the last answer where none does
+unfoldable pub first : List Row → Numbers → Numbers
+first [] last = last
+first (row true n ∷ rows) last = n
+first (row false n ∷ rows) last = first rows last
+
+-- "No lent byte changes": what is lent is as it was where the call is refused
+abbrev pub unlessRefused : {A : Type 0} → Numbers → A → A → A
+unlessRefused (numbers zero values) new old = new
+unlessRefused (numbers (suc n) values) new old = old

@@ -1,0 +1,27 @@
+-- The table of pairs is the page's table, column after column. Assumes nothing.
+use mathlib.Core.Path.{_≡_, _∙_, sym}
+use mathlib.Core.Bool.{Bool}
+use mathlib.Core.List.{List, [], _∷_, _++_, map}
+use Prim.Native.Nat.{ℕ, _+_, _*_, _/_, _%_, _<_}
+use native.Mathlib.Omega.{arith}
+use lib.Dec.{eqb, eqb→eq}
+use lib.ListN.{getD}
+use Rattle.colour.specs.Decode.{commands}
+use Rattle.base.proofs.Table.{all-at}
+
+abbrev column : ℕ → List ℕ
+column d = map (λ (r : List ℕ). getD r d 0) commands
+
+-- the code's table, which antt computes to be the list of the source
+abbrev pub pairs : List ℕ
+pairs = column 0 ++ column 1 ++ column 2
+
+abbrev right : ℕ → ℕ → Bool
+right k x = eqb x (getD (getD commands (k % 6) []) (k / 6) 0)
+
+pub pair-at : (d h : ℕ) → d < 3 → h < 6 → getD pairs (6 * d + h) 0 ≡ getD (getD commands h []) d 0
+pair-at d h k l =
+    let m : (6 * d + h) % 6 ≡ h = omega arith in
+    let q : (6 * d + h) / 6 ≡ d = omega arith in
+    let t = eqb→eq (getD pairs (6 * d + h) 0) (getD (getD commands ((6 * d + h) % 6) []) ((6 * d + h) / 6) 0) (all-at 18 (λ k. right k (getD pairs k 0)) tt (6 * d + h) (omega arith)) in
+    rw (m, q) at t

@@ -1,0 +1,56 @@
+-- The contracts of `classify` and `label` determine the answer and the lent list. Assumes nothing.
+use mathlib.Core.Path.{_≡_, _∙_, sym, ap, refl}
+use mathlib.Core.List.{List}
+use Prim.Native.Nat.{ℕ, zero, suc}
+use lib.ListN.{getD}
+use Rattle.base.specs.Lent.{lent}
+use Rattle.base.specs.Numbers.{Numbers, numbers, unlessRefused}
+use Rattle.colour.specs.Classify as classify
+use Rattle.colour.specs.Label as label
+use Rattle.colour.specs.declared.classify.Classified.{Classified}
+use Rattle.colour.specs.declared.classify.Classified.the-variants.{Done, Size, Setting, Bytes, Room, Pixel}
+use Rattle.colour.specs.declared.label.Labelled.{Labelled}
+use Rattle.colour.specs.declared.label.Labelled.the-variants.{Done as Labels, Label}
+
+-- document 01's number and values name one case
+abbrev classifiedOf : Numbers → Classified
+classifiedOf (numbers zero v) = Done
+classifiedOf (numbers (suc zero) v) = Size
+classifiedOf (numbers (suc (suc zero)) v) = Bytes
+classifiedOf (numbers (suc (suc (suc zero))) v) = Setting
+classifiedOf (numbers (suc (suc (suc (suc zero)))) v) = Room
+classifiedOf (numbers (suc (suc (suc (suc (suc n))))) v) = Pixel (getD v 0 0) (getD v 1 0)
+
+classified : (r : Classified) → classifiedOf (classify.numbered r) ≡ r
+classified Done = refl
+classified Size = refl
+classified Bytes = refl
+classified Setting = refl
+classified Room = refl
+classified (Pixel r c) = refl
+
+abbrev labelledOf : Numbers → Labelled
+labelledOf (numbers zero v) = Labels (getD v 0 0)
+labelledOf (numbers (suc n) v) = Label
+
+labelled : (r : Labelled) → labelledOf (label.numbered r) ≡ r
+labelled (Labels n) = refl
+labelled Label = refl
+
+-- two outcomes that `classify` may have for one input are one
+pub classify-only : {p : List ℕ} {h w s : ℕ} {before : List ℕ} {r r′ : Classified} {after after′ : List ℕ}
+    → classify.Outcome p h w s before r after → classify.Outcome p h w s before r′ after′ → (r ≡ r′) × (after ≡ after′)
+classify-only {p} {h} {w} {s} {before} {r} {r′} o o′ =
+    let e : classify.numbered r ≡ classify.numbered r′ = o .answers ∙ sym (o′ .answers) in (
+      sym (classified r) ∙ ap classifiedOf e ∙ classified r′,
+      o .leaves ∙ ap (λ (n : Numbers). unlessRefused n (lent (classify.shades p s) before) before) e ∙ sym (o′ .leaves),
+    )
+
+-- two outcomes that `label` may have for one input are one
+pub label-only : {colour x y : ℕ} {before : List ℕ} {r r′ : Labelled} {after after′ : List ℕ}
+    → label.Outcome colour x y before r after → label.Outcome colour x y before r′ after′ → (r ≡ r′) × (after ≡ after′)
+label-only {colour} {x} {y} {before} {r} {r′} o o′ =
+    let e : label.numbered r ≡ label.numbered r′ = o .answers ∙ sym (o′ .answers) in (
+      sym (labelled r) ∙ ap labelledOf e ∙ labelled r′,
+      o .leaves ∙ ap (λ (n : Numbers). unlessRefused n (lent (label.padded (label.labelOf colour x y)) before) before) e ∙ sym (o′ .leaves),
+    )

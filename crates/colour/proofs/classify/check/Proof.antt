@@ -1,0 +1,102 @@
+-- `colour::classify::check` meets its contract: the tests come in the order of the table of refusals, and each return says which of its rows hold and fail.
+-- Assumes nothing.
+use mathlib.Core.Path.{_≡_}
+use mathlib.Core.Bool.{false, _||_}
+use Prim.Native.Nat.{_*_, _≤_, _<_}
+use native.Mathlib.Omega.{arith}
+use borrow.Author.Tests.{lt-ltb, le-ltb, eq-eqb, ne-eqb}
+use Rattle.base.specs.Numbers.{first}
+use Rattle.base.specs.Limits.{wrongSide}
+use Rattle.colour.specs.Classify.{answer, refusals, unknownPixel}
+use Rattle.base.proofs.Tests.{neither}
+use Rattle.base.proofs.Sides.{side, area}
+use borrow.Author.Needs.{needs}
+use Rattle.colour.proofs.classify.check.Statement.{statement}
+use Rattle.colour.proofs.classify.check.Tie as tie
+
+-- both sides are right
+sides : (c : tie.Else2)
+    → (wrongSide (c .before .before .before .before .before .args .height) || wrongSide (c .before .before .before .before .before .args .width)) ≡ false
+sides c =
+    rw (
+      ← c .before .before .before .wrong-side .ensures,
+      c .before .before .if1 .left,
+      ← c .before .wrong-side2 .ensures,
+      c .if2 .left,
+    )
+
+wide : (c : tie.Else2)
+    → (0 < c .before .before .before .before .before .args .width) × (c .before .before .before .before .before .args .width ≤ 1024)
+wide c =
+    let a = c .before .before .before .before .before .args in
+    side (a .width) (neither (wrongSide (a .height)) (wrongSide (a .width)) (sides c) .1)
+
+room : (c : tie.Else2)
+    → c .before .before .before .before .before .args .height * c .before .before .before .before .before .args .width ≤ 1048576
+room c =
+    let a = c .before .before .before .before .before .args in
+    area (side (a .height) (neither _ (wrongSide (a .width)) (sides c) .0) .1) (wide c .1)
+
+wrong-side-requires : tie.Need-wrong-side-requires
+wrong-side-requires c κs = search needs
+
+returns : tie.Need-returns
+unfolding answer refusals unknownPixel first
+returns c = rw (← c .before .wrong-side .ensures, c .if1 .taken)
+
+wrong-side-requires-2 : tie.Need-wrong-side-requires-2
+wrong-side-requires-2 c κs = search needs
+
+returns-2 : tie.Need-returns-2
+unfolding answer refusals unknownPixel first
+returns-2 c = rw (← c .before .before .before .wrong-side .ensures, c .before .before .if1 .left, ← c .before .wrong-side2 .ensures, c .if2 .taken)
+
+returns-3 : tie.Need-returns-3
+unfolding answer refusals unknownPixel first
+returns-3 c = rw (sides (c .before), lt-ltb _ _ (c .if3 .taken))
+
+mul-n : tie.Need-mul-n
+mul-n c = record { fits = omega (arith, room c) }
+
+mul-if4 : tie.Need-mul-if4
+mul-if4 c = record { fits = omega (arith, room (c .before)) }
+
+returns-4 : tie.Need-returns-4
+unfolding answer refusals unknownPixel first
+returns-4 c = rw (sides (c .before .before), le-ltb _ _ (c .before .if3 .left), ne-eqb _ _ (c .if4 .taken))
+
+returns-5 : tie.Need-returns-5
+unfolding answer refusals unknownPixel first
+returns-5 c = rw (sides (c .before .before .before), le-ltb _ _ (c .before .before .if3 .left), eq-eqb _ _ (c .before .if4 .left), lt-ltb _ _ (c .if5 .taken))
+
+returns-6 : tie.Need-returns-6
+unfolding answer refusals unknownPixel first
+returns-6 c =
+    let a = c .before .before .before .before .before .before .before .before .before .args in
+    rw (sides (c .before .before .before .before), le-ltb _ _ (c .before .before .before .if3 .left), eq-eqb _ _ (c .before .before .if4 .left), le-ltb _ _ (c .before .if5 .left), le-ltb (a .setting) 2 (omega arith))
+
+first-unknown-requires : tie.Need-first-unknown-requires
+first-unknown-requires c κs = (c .before .before .if4 .left, wide (c .before .before .before .before) .0)
+
+returns-7 : tie.Need-returns-7
+unfolding answer refusals unknownPixel first
+returns-7 c =
+    let a = c .before .before .before .before .before .before .before .before .before .before .args in
+    rw (sides (c .before .before .before .before .before), le-ltb _ _ (c .before .before .before .before .if3 .left), eq-eqb _ _ (c .before .before .before .if4 .left), le-ltb _ _ (c .before .before .if5 .left), lt-ltb (a .setting) 2 (omega arith)) (c .first-unknown .ensures)
+
+pub check-spec : {M : Type 1} → statement M
+check-spec =
+    tie.close
+    (tie.spec
+    wrong-side-requires
+    returns
+    wrong-side-requires-2
+    returns-2
+    mul-n
+    returns-3
+    mul-if4
+    returns-4
+    returns-5
+    returns-6
+    first-unknown-requires
+    returns-7)

@@ -1,0 +1,74 @@
+-- Classifying (document 01, "Refusal numbers" and "Colours"): refusals 1, 3, 2, 4, 5 in this order, and what is written.
+-- Assumes nothing.
+use mathlib.Core.Path.{_≡_}
+use mathlib.Core.Bool.{Bool, true, false, not, cond, _&&_, _||_}
+use mathlib.Core.List.{List, [], _∷_, map}
+use Prim.Native.Nat.{ℕ, suc, _*_, _/_, _%_}
+use lib.Dec.{eqb, ltb}
+use lib.ListN.{length}
+use Rattle.colour.specs.declared.palette.Found.{Found}
+use Rattle.colour.specs.declared.palette.Found.the-variants.{Known, Unknown}
+use Rattle.colour.specs.declared.classify.Classified.{Classified}
+use Rattle.colour.specs.declared.classify.Classified.the-variants.{Done, Size, Setting, Bytes, Room, Pixel}
+use Rattle.base.specs.Numbers.{Numbers, numbers, Row, row, first, unlessRefused}
+use Rattle.base.specs.Lent.{lent}
+use Rattle.base.specs.Limits.{wrongSide}
+use Rattle.colour.specs.Palette.{Rgb, colourOf, pixelsOf, black, white}
+
+-- document 01's number, and the row and the column, zeros where there is none
+abbrev pub numbered : Classified → Numbers
+numbered Done = numbers 0 (0 ∷ 0 ∷ [])
+numbered Size = numbers 1 (0 ∷ 0 ∷ [])
+numbered Bytes = numbers 2 (0 ∷ 0 ∷ [])
+numbered Setting = numbers 3 (0 ∷ 0 ∷ [])
+numbered Room = numbers 4 (0 ∷ 0 ∷ [])
+numbered (Pixel r c) = numbers 5 (r ∷ c ∷ [])
+
+-- what a setting does with a pixel that is not in the table: 0 and 1 refuse it, 2 makes it white, and 3 black
+abbrev pub refusesUnknown : ℕ → Bool
+refusesUnknown s = ltb s 2
+
+abbrev pub substitute : ℕ → ℕ
+substitute s = cond (eqb s 2) white black
+
+-- how many colours stand before the first that is unknown
+unfoldable pub knownFirst : List Found → ℕ
+knownFirst [] = 0
+knownFirst (Known c ∷ fs) = suc (knownFirst fs)
+knownFirst (Unknown ∷ fs) = 0
+
+-- the colour number of a pixel
+unfoldable pub shade : ℕ → Found → ℕ
+shade s (Known c) = c
+shade s Unknown = substitute s
+
+unfoldable pub found : List ℕ → List Found
+found p = map colourOf (pixelsOf p)
+
+-- refusal 5 under a setting that refuses: the row and the column of the first unknown pixel, counted row by row
+unfoldable pub unknownPixel : Bool → List ℕ → ℕ → ℕ → Row
+unknownPixel strict pixels n width =
+    let k = knownFirst (found pixels) in
+    row (strict && ltb k n) (numbers 5 (k / width ∷ k % width ∷ []))
+
+-- the table of refusals, in document 01's order for classifying
+unfoldable pub refusals : List ℕ → ℕ → ℕ → ℕ → ℕ → List Row
+refusals pixels height width setting room =
+    row (wrongSide height || wrongSide width) (numbers 1 (0 ∷ 0 ∷ []))
+    ∷ row (ltb 3 setting) (numbers 3 (0 ∷ 0 ∷ []))
+    ∷ row (not (eqb (length pixels) (3 * (height * width)))) (numbers 2 (0 ∷ 0 ∷ []))
+    ∷ row (ltb room (height * width)) (numbers 4 (0 ∷ 0 ∷ []))
+    ∷ unknownPixel (refusesUnknown setting) pixels (height * width) width
+    ∷ []
+
+unfoldable pub answer : List ℕ → ℕ → ℕ → ℕ → ℕ → Numbers
+answer pixels height width setting room = first (refusals pixels height width setting room) (numbers 0 (0 ∷ 0 ∷ []))
+
+-- one colour number for each pixel
+unfoldable pub shades : List ℕ → ℕ → List ℕ
+shades pixels setting = map (shade setting) (found pixels)
+
+-- what a call answers and leaves
+pub record Outcome (pixels : List ℕ) (height width setting : ℕ) (before : List ℕ) (r : Classified) (after : List ℕ) : Type 0 where
+  pub answers : numbered r ≡ answer pixels height width setting (length before)
+  pub leaves : after ≡ unlessRefused (numbered r) (lent (shades pixels setting) before) before

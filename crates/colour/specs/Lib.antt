@@ -1,0 +1,6 @@
+-- What the contracts of `colour` cite.
+pub mod Palette
+pub mod Classify
+pub mod Instruction
+pub mod Decode
+pub mod Label

@@ -1,0 +1,139 @@
+// Classifying: pixels of three bytes to colour numbers.
+ghost use mathlib.Core.Path.{_≡_};
+ghost use Prim.Native.Nat.{_+_, _*_, _<_, _≤_};
+ghost use lib.ListN.{length, getD};
+ghost use Rattle.colour.specs.declared.palette.Found.the-variants.{Unknown};
+ghost use mathlib.Core.Bool.{true};
+ghost use mathlib.Core.List.{[], _∷_};
+ghost use Rattle.base.specs.Lent.{lent};
+ghost use Rattle.base.specs.Numbers.{numbers, first};
+ghost use Rattle.colour.specs.Classify.{
+  Outcome,
+  numbered,
+  answer,
+  found,
+  knownFirst,
+  unknownPixel,
+  shade,
+  shades,
+};
+use base::limits::wrong_side;
+use crate::palette::Found;
+use crate::palette::colour_of;
+
+// What a call answers: done, or a refusal, with the place of an unknown pixel.
+pub enum Classified {
+    Done,
+    Size,
+    Setting,
+    Bytes,
+    Room,
+    Pixel { row: usize, column: usize },
+}
+
+// What the table says of pixel i.
+fn found_at(pixels: &[u8], i: usize) -> Found
+    requires { ⌜ 3 * i + 2 < length (now pixels) ⌝ }
+    ensures { λ f. ⌜ f ≡ getD (found (now (pixels .entry))) i Unknown ⌝ }
+{
+    let at = 3 * i;
+    colour_of(pixels[at], pixels[at + 1], pixels[at + 2])
+}
+
+// How many of the n pixels stand before the first that is not in the table.
+fn known_first(pixels: &[u8], n: usize) -> usize
+    requires { ⌜ length (now pixels) ≡ 3 * n ⌝ }
+    ensures { λ k. ⌜ k ≡ knownFirst (found (now (pixels .entry))) ⌝ }
+{
+    let mut i = 0;
+    while i < n {
+        let f = found_at(pixels, i);
+        if let Found::Unknown = f {
+            return i;
+        }
+        i += 1;
+    }
+    i
+}
+
+// The answer under a setting that refuses unknown pixels.
+fn first_unknown(pixels: &[u8], n: usize, width: usize) -> Classified
+    requires { ⌜ (length (now pixels) ≡ 3 * n) × (0 < width) ⌝ }
+    ensures { λ r. ⌜ numbered r ≡ first (unknownPixel true (now (pixels .entry)) n width ∷ []) (numbers 0 (0 ∷ 0 ∷ [])) ⌝ }
+{
+    let k = known_first(pixels, n);
+    if k < n {
+        Classified::Pixel {
+            row: k / width,
+            column: k % width,
+        }
+    } else {
+        Classified::Done
+    }
+}
+
+// The tests of document 01 in its order. Nothing is written.
+fn check(pixels: &[u8], height: usize, width: usize, setting: u8, room: usize) -> Classified
+    ensures { λ r. ⌜ numbered r ≡ answer (now (pixels .entry)) height width setting room ⌝ }
+{
+    if wrong_side(height) {
+        return Classified::Size;
+    }
+    if wrong_side(width) {
+        return Classified::Size;
+    }
+    let n = height * width;
+    if 3 < setting {
+        return Classified::Setting;
+    }
+    if pixels.len() != 3 * n {
+        return Classified::Bytes;
+    }
+    if room < n {
+        return Classified::Room;
+    }
+    if 1 < setting {
+        return Classified::Done;
+    }
+    first_unknown(pixels, n, width)
+}
+
+// The colour number that a setting makes of what the table says: white is 19, black 18.
+fn shade_of(setting: u8, f: Found) -> u8
+    ensures { λ r. ⌜ r ≡ shade setting f ⌝ }
+{
+    match f {
+        Found::Known(c) => c,
+        Found::Unknown => { if setting == 2 { 19 } else { 18 } }
+    }
+}
+
+// One colour for each of the n pixels.
+fn paint(pixels: &[u8], n: usize, setting: u8, colours: &mut [u8])
+    requires { ⌜ (length (now pixels) ≡ 3 * n) × (n ≤ length (now colours)) ⌝ }
+    ensures { λ _. ⌜ now (colours .exit) ≡ lent (shades (now (pixels .entry)) setting) (now (colours .entry)) ⌝ }
+{
+    let mut i: usize = 0;
+    while i < n {
+        let f = found_at(pixels, i);
+        colours[i] = shade_of(setting, f);
+        i += 1;
+    }
+}
+
+// The colour numbers of the pixels, row by row, into the lent colours.
+pub fn classify(
+    pixels: &[u8],
+    height: usize,
+    width: usize,
+    setting: u8,
+    colours: &mut [u8],
+) -> Classified
+    ensures { λ r. ⌜ Outcome (now (pixels .entry)) height width setting (now (colours .entry)) r (now (colours .exit)) ⌝ }
+{
+    let answer = check(pixels, height, width, setting, colours.len());
+    if let Classified::Done = answer {
+        paint(pixels, height * width, setting, colours);
+    }
+    answer
+}

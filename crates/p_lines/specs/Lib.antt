@@ -1,0 +1,2 @@
+-- The P lines of document 01.
+pub mod Table

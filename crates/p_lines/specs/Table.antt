@@ -1,0 +1,52 @@
+-- "Jobs on either side (P: proved)": each P line of document 01 as a question and its answer, in its order.
+-- Assumes nothing.
+use mathlib.Core.List.{List, [], _∷_, map}
+use Prim.Native.Nat.{ℕ, _^_}
+use lib.IntN.{ℤ, pos, negsuc, natAbs, _+ℤ_}
+use Rattle.word.specs.Word.{wrap, quotient, remainder}
+use Rattle.colour.specs.Decode.{decodeOf}
+use Rattle.flow.specs.Pointer.{numberOf, ofNumber, attemptOf}
+
+pub data Question : Type 0 where
+  -- the eight attempts from a state, by their numbers
+  orderFrom : ℕ → Question
+  -- the instruction from one colour to another
+  decodes : ℕ → ℕ → Question
+  -- b and a of an instruction
+  modOf : ℤ → ℤ → Question
+  divOf : ℤ → ℤ → Question
+  addOf : ℤ → ℤ → Question
+
+-- what the definitions say
+abbrev pub answer : Question → List ℤ
+answer (orderFrom s) = map (λ k. pos (numberOf (attemptOf (ofNumber s) k))) (0 ∷ 1 ∷ 2 ∷ 3 ∷ 4 ∷ 5 ∷ 6 ∷ 7 ∷ [])
+answer (decodes from to) = pos (decodeOf from to) ∷ []
+answer (modOf b a) = remainder b a
+answer (divOf b a) = quotient b a
+answer (addOf b a) = wrap (b +ℤ a) ∷ []
+
+pub record PLine : Type 0 where
+  pub asks : Question
+  pub says : List ℤ
+
+abbrev line : Question → List ℤ → PLine
+line q a = record { asks = q; says = a }
+
+-- an answer of naturals
+abbrev these : List ℕ → List ℤ
+these = map pos
+
+-- colours: dark red 0, red 6, light red 12, light blue 16, light magenta 17; instructions: Push 1, Div 6, IntOut 17;
+-- `negsuc n` is -(n + 1)
+abbrev pub pLines : List PLine
+pLines =
+    line (orderFrom 0) (these (0 ∷ 1 ∷ 3 ∷ 2 ∷ 4 ∷ 5 ∷ 7 ∷ 6 ∷ []))
+    ∷ line (orderFrom 3) (these (3 ∷ 2 ∷ 4 ∷ 5 ∷ 7 ∷ 6 ∷ 0 ∷ 1 ∷ []))
+    ∷ line (decodes 12 6) (these (1 ∷ []))
+    ∷ line (decodes 0 17) (these (17 ∷ []))
+    ∷ line (decodes 16 12) (these (6 ∷ []))
+    ∷ line (modOf (pos 7) (negsuc 2)) (these (1 ∷ []))
+    ∷ line (modOf (negsuc 6) (pos 3)) (these (2 ∷ []))
+    ∷ line (divOf (negsuc 6) (pos 2)) (negsuc 2 ∷ [])
+    ∷ line (addOf (pos 9223372036854775807) (pos 1)) (negsuc 9223372036854775807 ∷ [])
+    ∷ []

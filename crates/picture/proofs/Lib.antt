@@ -1,0 +1,4 @@
+-- Laws of the codels of a picture, and that a reading is determined.
+pub mod Codels
+pub mod Sizes
+pub mod Reading

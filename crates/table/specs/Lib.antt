@@ -1,0 +1,3 @@
+-- The layout of the lent table.
+pub mod Layout
+pub mod ExitNumber

@@ -1,0 +1,100 @@
+-- The definitions at worked examples. Assumes nothing.
+use mathlib.Core.Path.{_≡_, refl}
+use mathlib.Core.Bool.{true, false}
+use mathlib.Core.List.{[], _∷_}
+use lib.IntN.{pos, negsuc}
+use Rattle.base.specs.Text.{ascii}
+use Rattle.text.specs.Line.{lineLength}
+use Rattle.text.specs.Range.{within}
+use Rattle.text.specs.Utf8.{scalar, scalars, encode, encodes}
+use Rattle.text.specs.White.{white, trimStart}
+use Rattle.text.specs.Number.{digits, numeral, onward, magnitudeOf, sign, numberOf}
+use Rattle.text.specs.Input.{charOf, intOf}
+use Rattle.text.specs.Reading.{back, rest, chars, same, valid, given, takeOf}
+use Rattle.text.specs.declared.input.Taken.the-variants.{Push, Skip, BadInput}
+use Rattle.text.specs.declared.number.Number.the-variants.{Value, NotANumber}
+
+-- é, €, 𝄞
+letters : encodes (0xE9 ∷ 0x20AC ∷ 0x1D11E ∷ []) ≡ 0xC3 ∷ 0xA9 ∷ 0xE2 ∷ 0x82 ∷ 0xAC ∷ 0xF0 ∷ 0x9D ∷ 0x84 ∷ 0x9E ∷ []
+unfolding encode encodes
+letters = refl
+
+-- the last scalar below the surrogates, the first of them, and the first number past all scalars
+below-gap : scalar 0xD7FF ≡ true
+unfolding scalar within
+below-gap = refl
+
+surrogate : scalar 0xD800 ≡ false
+unfolding scalar within
+surrogate = refl
+
+past-all : scalar 0x110000 ≡ false
+unfolding scalar within
+past-all = refl
+
+-- `7`, newline, `8`
+line : lineLength (0x37 ∷ 10 ∷ 0x38 ∷ []) ≡ 2
+unfolding lineLength
+line = refl
+
+-- a narrow no-break space is white space, a zero width space is none
+narrow : white 0x202F ≡ true
+unfolding white within
+narrow = refl
+
+none : white 0x200B ≡ false
+unfolding white within
+none = refl
+
+-- U+3000, `-12`, a carriage return, a newline
+int : intOf (0x3000 ∷ 0x2D ∷ 0x31 ∷ 0x32 ∷ 13 ∷ 10 ∷ []) ≡ Value (negsuc 11)
+unfolding encode encodes white within trimStart digits numeral onward magnitudeOf sign numberOf
+int = refl
+
+-- signs and zeros
+plus-five : numberOf (ascii "+5") ≡ Value (pos 5)
+unfolding within digits numeral onward magnitudeOf sign numberOf
+plus-five = refl
+
+minus-zero : numberOf (ascii "-0") ≡ Value (pos 0)
+unfolding within digits numeral onward magnitudeOf sign numberOf
+minus-zero = refl
+
+zeros : numberOf (ascii "007") ≡ Value (pos 7)
+unfolding within digits numeral onward magnitudeOf sign numberOf
+zeros = refl
+
+alone : numberOf (ascii "+") ≡ NotANumber
+unfolding within digits numeral onward magnitudeOf sign numberOf
+alone = refl
+
+twice : numberOf (ascii "--1") ≡ NotANumber
+unfolding within digits numeral onward magnitudeOf sign numberOf
+twice = refl
+
+-- the ends of i64: -2^63, and 2^63
+least : numberOf (ascii "-9223372036854775808") ≡ Value (negsuc 9223372036854775807)
+unfolding within digits numeral onward magnitudeOf sign numberOf
+least = refl
+
+past : numberOf (ascii "9223372036854775808") ≡ NotANumber
+unfolding within digits numeral onward magnitudeOf sign numberOf
+past = refl
+
+-- ` -12`, newline, `7`: the line is taken and -12 pushed. A line with a lone continuation byte is refused
+taken : takeOf intOf (0x20 ∷ 0x2D ∷ 0x31 ∷ 0x32 ∷ 10 ∷ 0x37 ∷ []) 0 ≡ Push (negsuc 11) 5
+unfolding scalar scalars encode encodes white within trimStart digits numeral onward magnitudeOf sign numberOf lineLength back rest chars same valid given takeOf
+taken = refl
+
+refused : takeOf intOf (0x31 ∷ 0x80 ∷ 10 ∷ []) 0 ≡ BadInput
+unfolding scalar scalars encode encodes within lineLength back rest chars same valid given takeOf
+refused = refl
+
+-- CharIn pushes the newline of an empty line, and is skipped at the end of the input
+empty : takeOf charOf (10 ∷ []) 0 ≡ Push (pos 10) 1
+unfolding scalar scalars encode encodes within lineLength back rest chars same valid given takeOf charOf
+empty = refl
+
+at-end : takeOf charOf (10 ∷ []) 1 ≡ Skip 1
+unfolding scalars encodes lineLength chars same valid given takeOf charOf
+at-end = refl

@@ -1,0 +1,71 @@
+-- What an input instruction takes of a line.
+--     take-none                        at the end of the input
+--     take-bad, take-skip, take-push   a line that is not UTF-8; that gives no number; that gives one
+--     int-of, char-of, no-char-of      what IntIn and CharIn read
+-- Assumes nothing.
+use Prim.Native.Nat.{ℕ, _-_, _≤_}
+use mathlib.Core.Path.{_≡_, refl, sym, ap, _∙_, subst}
+use mathlib.Core.Logic.{_⊎_, ⊎-elim}
+use mathlib.Core.List.{List, [], _∷_}
+use native.Mathlib.Omega.{arith}
+use denote.Enum.Declared.{tagOf}
+use lib.IntN.{ℤ, pos}
+use lib.ListN.{length, take, drop, drop-of-length-le}
+use Rattle.base.specs.Numbers.{Numbers, numbers}
+use Rattle.text.specs.Line.{lineLength, lineEnd}
+use Rattle.text.specs.Utf8.{Utf8, Valid, IsChar, Reads, char, bad, past}
+use Rattle.text.specs.Trim.{Trims}
+use Rattle.text.specs.Number.{numberOf}
+use Rattle.text.specs.Input.{charOf, intOf, numbered, pushed, values, Takes, reads, bad as bad-line}
+use Rattle.text.specs.declared.utf8.Decoded.{Decoded}
+use Rattle.text.specs.declared.number.Number.{Number}
+use Rattle.text.specs.declared.number.Number.the-variants.{Value, NotANumber}
+use Rattle.text.specs.declared.input.Taken.the-variants.{Push, Skip, BadInput}
+use Rattle.text.proofs.utf8.Decoded.{the-type}
+use Rattle.text.proofs.Utf8Laws.{utf8-none, utf8-unique, head-is}
+use Rattle.text.proofs.ValidLaws.{bad-never}
+use Rattle.text.proofs.LineLaws.{line-none, line-part}
+
+-- the place after the line
+abbrev kept : ℕ → Numbers
+kept n = numbers 0 (n ∷ [])
+
+pub take-none : (f : List ℕ → Number) (s : List ℕ) (at : ℕ) → f [] ≡ NotANumber → length s ≤ at → Takes f s at (Skip at)
+unfolding numbered pushed values
+take-none f s at e h =
+    let n : lineLength (drop at s) ≡ 0 = line-none s at h in
+    let p : at ≡ lineEnd s at = omega arith in
+    reads [] (utf8-none (take (lineLength (drop at s)) (drop at s)) (rw n)) (ap kept p) (sym (ap values e))
+
+-- the part of the input up to e, where the line ends
+module _ (f : List ℕ → Number) (s : List ℕ) (at e : ℕ) (is : e ≡ lineEnd s at) where
+  pub take-bad : (Valid (take (e - at) (drop at s)) → ⊥) → Takes f s at BadInput
+  unfolding numbered pushed
+  take-bad n = bad-line (λ v. n (subst Valid (sym (line-part s at e is)) v)) refl refl
+
+  module _ (cs : List ℕ) (u : Utf8 (take (e - at) (drop at s)) cs) where
+    line-utf8 : Utf8 (take (lineLength (drop at s)) (drop at s)) cs
+    line-utf8 = subst (λ (l : List ℕ). Utf8 l cs) (line-part s at e is) u
+
+    pub take-skip : f cs ≡ NotANumber → Takes f s at (Skip e)
+    unfolding numbered pushed values
+    take-skip q = reads cs line-utf8 (ap kept is) (sym (ap values q))
+
+    pub take-push : (v : ℤ) → f cs ≡ Value v → Takes f s at (Push v e)
+    unfolding numbered pushed values
+    take-push v q = reads cs line-utf8 (ap kept is) (sym (ap values q))
+
+-- ---- the characters cs of a line l
+module _ (l cs : List ℕ) (u : Utf8 l cs) where
+  pub int-of : (t : List ℕ) → Trims l t → (r : Number) → r ≡ numberOf t → intOf cs ≡ r
+  int-of t p r q = ap numberOf (sym (p .text cs u .same)) ∙ sym q
+
+  pub char-of : (c n : ℕ) → IsChar l 0 c n → charOf cs ≡ Value (pos c)
+  unfolding charOf
+  char-of c n k = ap charOf (head-is c l (drop n l) (k .bytes) cs u .1)
+
+  pub no-char-of : (r : Decoded) → (tagOf the-type r ≡ 1) ⊎ (tagOf the-type r ≡ 2) → Reads l 0 r → charOf cs ≡ NotANumber
+  unfolding charOf
+  no-char-of r t (char c n k e) = let z = ap (tagOf the-type) e in absurd (⊎-elim (λ p. omega arith) (λ p. omega arith) t)
+  no-char-of r t (bad h f e) = absurd (bad-never l 0 h f (cs, u))
+  no-char-of r t (past h e) = ap charOf (utf8-unique l cs [] u (utf8-none l (drop-of-length-le l h)))

@@ -1,0 +1,44 @@
+-- The length of the first line, byte by byte, and how a line lies in the input.
+--     line-none, line-here, line-more      by the byte at a place
+--     line-within, line-part               a line that begins within the input ends within it, and is a part of it
+-- Assumes nothing.
+use Prim.Native.Nat.{ℕ, suc, _+_, _-_, _<_, _≤_}
+use mathlib.Core.Path.{_≡_, ap}
+use mathlib.Core.Bool.{Bool, true, false, cond}
+use mathlib.Core.List.{List, [], _∷_}
+use native.Mathlib.Omega.{arith}
+use borrow.Author.Tests.{eq-eqb, ne-eqb}
+use lib.Dec.{eqb}
+use lib.ListN.{length, getD, take, drop, length-drop, drop-of-length-le}
+use Rattle.text.specs.Line.{lineLength, lineAt, lineEnd}
+use Rattle.text.proofs.Parts.{from1}
+
+module _ (s : List ℕ) (i : ℕ) where
+  pub line-none : length s ≤ i → lineLength (drop i s) ≡ 0
+  unfolding lineLength
+  line-none h = rw (drop-of-length-le s h)
+
+  pub line-here : i < length s → getD s i 0 ≡ 10 → lineLength (drop i s) ≡ 1
+  unfolding lineLength
+  line-here h e = rw (from1 s i h, eq-eqb (getD s i 0) 10 e)
+
+  pub line-more : i < length s → (getD s i 0 ≡ 10 → ⊥) → lineLength (drop i s) ≡ 1 + lineLength (drop (i + 1) s)
+  unfolding lineLength
+  line-more h e = rw (from1 s i h, ne-eqb (getD s i 0) 10 e)
+
+pick-le : (t : Bool) (m n : ℕ) → m ≤ n → cond t 1 (1 + m) ≤ suc n
+pick-le true m n h = omega arith
+pick-le false m n h = omega arith
+
+line-le : (l : List ℕ) → lineLength l ≤ length l
+unfolding lineLength
+line-le [] = omega arith
+line-le (b ∷ bs) = pick-le (eqb b 10) (lineLength bs) (length bs) (line-le bs)
+
+pub line-within : (s : List ℕ) (at : ℕ) → at ≤ length s → lineEnd s at ≤ length s
+line-within s at h = omega (arith, line-le (drop at s), length-drop at s)
+
+pub line-part : (s : List ℕ) (at e : ℕ) → e ≡ lineEnd s at → take (e - at) (drop at s) ≡ lineAt s at
+line-part s at e is =
+    let n : e - at ≡ lineLength (drop at s) = omega arith in
+    ap (λ (k : ℕ). take k (drop at s)) n

@@ -1,0 +1,120 @@
+-- Numerals, digit by digit.
+--     digits-on, digits-low, digits-high, digits-end    whether digits stand from a place on, by the byte there
+--     onward-on, onward-end, onward-le                  their value after a number
+--     no-numeral, too-large, is-magnitude               what `magnitudeOf` then is
+--     magnitude-le                                      a magnitude is no more than the limit
+--     minus-one, below-zero                             -1 - m, and -n, as the machine has them
+--     number-none .. number-bare                        a number by its first byte
+-- Assumes nothing.
+use Prim.Native.Nat.{ℕ, zero, suc, _+_, _*_, _-_, _^_, _<_, _≤_}
+use mathlib.Core.Path.{_≡_, refl, ap, _∙_}
+use mathlib.Core.Bool.{Bool, true, false, _&&_, cond, and-false}
+use mathlib.Core.List.{List, [], _∷_}
+use native.Mathlib.Nat.{le-trans, le-refl, zero-add}
+use native.Mathlib.Omega.{arith}
+use borrow.Author.Tests.{le-leb, lt-leb, leb-true, eq-eqb, ne-eqb}
+use lib.Dec.{leb}
+use lib.IntN.{ℤ, pos, negsuc, negℤ, _-ℤ_}
+use lib.ListN.{length, getD, drop, drop-of-length-le}
+use mir.Syntax.{w64}
+use mir.Val.{toZ}
+use mir.ValLaws.{toZ-pos}
+use Rattle.base.proofs.Tests.{and-both}
+use Rattle.text.specs.Number.{digits, numeral, onward, magnitudeOf, plus, minus, numberOf}
+use Rattle.text.specs.declared.number.Number.the-variants.{NotANumber}
+use Rattle.text.specs.declared.number.Magnitude.the-variants.{Is, Not}
+use Rattle.text.proofs.RangeLaws.{inside, below, above}
+use Rattle.text.proofs.Parts.{from1}
+
+module _ (s : List ℕ) (i : ℕ) where
+  pub digits-on : i < length s → 0x30 ≤ getD s i 0 → getD s i 0 ≤ 0x39 → digits (drop i s) ≡ digits (drop (i + 1) s)
+  unfolding digits
+  digits-on h l u = rw (from1 s i h, inside 0x30 0x39 (getD s i 0) l u)
+
+  pub digits-low : i < length s → getD s i 0 < 0x30 → digits (drop i s) ≡ false
+  unfolding digits
+  digits-low h l = rw (from1 s i h, below 0x30 0x39 (getD s i 0) l)
+
+  pub digits-high : i < length s → 0x39 < getD s i 0 → digits (drop i s) ≡ false
+  unfolding digits
+  digits-high h l = rw (from1 s i h, above 0x30 0x39 (getD s i 0) l)
+
+  pub digits-end : length s ≤ i → digits (drop i s) ≡ true
+  unfolding digits
+  digits-end h = rw (drop-of-length-le s h)
+
+  pub onward-on : (n b : ℕ) → i < length s → b ≡ getD s i 0 → onward n (drop i s) ≡ onward (n * 10 + (b - 0x30)) (drop (i + 1) s)
+  unfolding onward
+  onward-on n b h e = rw (from1 s i h, e)
+
+  pub onward-end : (n : ℕ) → length s ≤ i → onward n (drop i s) ≡ n
+  unfolding onward
+  onward-end n h = rw (drop-of-length-le s h)
+
+pub onward-le : (n : ℕ) (bs : List ℕ) → n ≤ onward n bs
+unfolding onward
+onward-le n [] = le-refl n
+onward-le n (b ∷ bs) = le-trans {m = n * 10 + (b - 0x30)} (omega arith) (onward-le (n * 10 + (b - 0x30)) bs)
+
+module _ (limit : ℕ) where
+  pub no-numeral : (s : List ℕ) → digits s ≡ false → magnitudeOf limit s ≡ Not
+  unfolding magnitudeOf numeral
+  no-numeral [] e = refl
+  no-numeral (b ∷ bs) e = rw e
+
+  pub too-large : (s : List ℕ) → limit < onward 0 s → magnitudeOf limit s ≡ Not
+  unfolding magnitudeOf
+  too-large s h = rw (lt-leb (onward 0 s) limit h, and-false)
+
+  pub is-magnitude : (s : List ℕ) → 0 < length s → digits s ≡ true → onward 0 s ≤ limit → magnitudeOf limit s ≡ Is (onward 0 s)
+  unfolding magnitudeOf numeral
+  is-magnitude [] n e h = absurd (omega arith)
+  is-magnitude (b ∷ bs) n e h = rw (e, le-leb (onward 0 (b ∷ bs)) limit h)
+
+  pub empty-magnitude : (s : List ℕ) → length s ≡ 0 → magnitudeOf limit s ≡ Not
+  unfolding magnitudeOf numeral
+  empty-magnitude [] e = refl
+  empty-magnitude (b ∷ bs) e = absurd (omega arith)
+
+pick-is : (n v : ℕ) (t : Bool) → Is n ≡ cond t (Is v) Not → (t ≡ true) × (Is n ≡ Is v)
+pick-is n v true q = (refl, q)
+pick-is n v false q = let z : _≡_ {A = ℕ} 0 1 = cc in absurd (omega arith)
+
+pub magnitude-le : (limit n : ℕ) (s : List ℕ) → Is n ≡ magnitudeOf limit s → n ≤ limit
+unfolding magnitudeOf
+magnitude-le limit n s q =
+    let p = pick-is n (onward 0 s) (numeral s && leb (onward 0 s) limit) q in
+    let e : n ≡ onward 0 s = cc (p .1) in
+    rw e (leb-true (onward 0 s) limit (and-both (numeral s) (leb (onward 0 s) limit) (p .0) .1))
+
+minus-pos : (m : ℕ) → negsuc 0 -ℤ pos m ≡ negsuc m
+minus-pos zero = refl
+minus-pos (suc k) = ap (λ (j : ℕ). negsuc (suc j)) (zero-add k)
+
+pub minus-one : (m : ℕ) → m < 2 ^ 63 → negsuc 0 -ℤ toZ w64 m ≡ negsuc m
+minus-one m h = ap (λ (z : ℤ). negsuc 0 -ℤ z) (toZ-pos w64 m h) ∙ minus-pos m
+
+pub below-zero : (n : ℕ) → (n ≡ 0 → ⊥) → negsuc (n - 1) ≡ negℤ (pos n)
+below-zero zero h = absurd (h refl)
+below-zero (suc k) h = ap negsuc (omega arith)
+
+-- a number by its first byte
+pub number-none : (s : List ℕ) → length s ≡ 0 → NotANumber ≡ numberOf s
+unfolding numberOf
+number-none [] e = refl
+number-none (b ∷ bs) e = absurd (omega arith)
+
+pub number-minus : (s : List ℕ) → 0 < length s → getD s 0 0 ≡ 0x2D → minus (drop 1 s) ≡ numberOf s
+unfolding numberOf
+number-minus [] h e = absurd (omega arith)
+number-minus (b ∷ bs) h e = rw (eq-eqb b 0x2D e)
+
+pub number-plus : (s : List ℕ) → 0 < length s → (getD s 0 0 ≡ 0x2D → ⊥) → getD s 0 0 ≡ 0x2B → plus (drop 1 s) ≡ numberOf s
+unfolding numberOf
+number-plus [] h n e = absurd (omega arith)
+number-plus (b ∷ bs) h n e = rw (ne-eqb b 0x2D n, eq-eqb b 0x2B e)
+
+pub number-bare : (s : List ℕ) → 0 < length s → (getD s 0 0 ≡ 0x2D → ⊥) → (getD s 0 0 ≡ 0x2B → ⊥) → plus s ≡ numberOf s
+unfolding numberOf
+number-bare [] h n m = absurd (omega arith)
+number-bare (b ∷ bs) h n m = rw (ne-eqb b 0x2D n, ne-eqb b 0x2B m)

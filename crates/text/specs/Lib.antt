@@ -1,0 +1,9 @@
+-- What the contracts of lines, characters and numbers cite.
+pub mod Range
+pub mod Utf8
+pub mod White
+pub mod Trim
+pub mod Line
+pub mod Number
+pub mod Input
+pub mod Reading

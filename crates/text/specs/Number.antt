@@ -1,0 +1,47 @@
+-- "a sign or none and one or more ASCII digits in i64". Assumes nothing.
+use Prim.Native.Nat.{ℕ, _+_, _*_, _-_, _^_}
+use mathlib.Core.Bool.{Bool, true, false, _&&_, cond}
+use mathlib.Core.List.{List, [], _∷_}
+use lib.Dec.{leb, eqb}
+use lib.IntN.{ℤ, pos, negℤ}
+use Rattle.text.specs.Range.{within}
+use Rattle.text.specs.declared.number.Number.{Number}
+use Rattle.text.specs.declared.number.Number.the-variants.{Value, NotANumber}
+use Rattle.text.specs.declared.number.Magnitude.{Magnitude}
+use Rattle.text.specs.declared.number.Magnitude.the-variants.{Is, Not}
+
+-- every byte is a digit, `0` to `9`
+unfoldable pub digits : List ℕ → Bool
+digits [] = true
+digits (b ∷ bs) = within 0x30 0x39 b && digits bs
+
+-- "one or more ASCII digits"
+unfoldable pub numeral : List ℕ → Bool
+numeral [] = false
+numeral (b ∷ bs) = digits (b ∷ bs)
+
+-- the value of digits that stand after a number n
+unfoldable pub onward : ℕ → List ℕ → ℕ
+onward n [] = n
+onward n (b ∷ bs) = onward (n * 10 + (b - 0x30)) bs
+
+-- the value of a numeral, where it is no more than the limit
+unfoldable pub magnitudeOf : ℕ → List ℕ → Magnitude
+magnitudeOf limit bs = cond (numeral bs && leb (onward 0 bs) limit) (Is (onward 0 bs)) Not
+
+-- the number that a sign makes of a value
+unfoldable pub sign : (ℕ → ℤ) → Magnitude → Number
+sign f (Is n) = Value (f n)
+sign f Not = NotANumber
+
+-- "in i64": from -2^63 to 2^63 - 1
+abbrev pub plus : List ℕ → Number
+plus bs = sign pos (magnitudeOf (2 ^ 63 - 1) bs)
+
+abbrev pub minus : List ℕ → Number
+minus bs = sign (λ n. negℤ (pos n)) (magnitudeOf (2 ^ 63) bs)
+
+-- "a sign or none": 0x2D is `-`, 0x2B is `+`
+unfoldable pub numberOf : List ℕ → Number
+numberOf [] = NotANumber
+numberOf (b ∷ bs) = cond (eqb b 0x2D) (minus bs) (cond (eqb b 0x2B) (plus bs) (plus (b ∷ bs)))

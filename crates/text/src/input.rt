@@ -1,0 +1,72 @@
+// What an input instruction takes: it "consumes a line, newline included where there is one".
+use crate::number::Number;
+use crate::number::parse;
+use crate::utf8::Decoded;
+use crate::utf8::decode;
+use crate::utf8::is_utf8;
+use crate::white::trim;
+ghost use mathlib.Core.Path.{_≡_};
+ghost use Rattle.text.specs.Input.{Takes, intOf, charOf};
+ghost use Rattle.text.specs.Line.{lineEnd};
+
+// A value to push or none, with the place after the line; or a line that is not UTF-8.
+pub enum Taken {
+    Push { value: i64, next: usize },
+    Skip { next: usize },
+    BadInput,
+}
+
+// The place after the newline that ends the line at `at`, or the end of the input.
+pub fn line_end(input: &[u8], at: usize) -> usize
+    ensures { λ r. ⌜ r ≡ lineEnd (now (input .entry)) at ⌝ }
+{
+    let mut i = at;
+    while i < input.len() {
+        if input[i] == 10 {
+            return i + 1;
+        }
+        i += 1;
+    }
+    i
+}
+
+// "IntIn trims and reads" the line as a number. "At the end of input both skip."
+pub fn int_in(input: &[u8], at: usize) -> Taken
+    ensures { λ r. ⌜ Takes intOf (now (input .entry)) at r ⌝ }
+{
+    if input.len() <= at {
+        return Taken::Skip { next: at };
+    }
+    let end = line_end(input, at);
+    let line = &input[at..end];
+    if is_utf8(line) {
+        let Number::Value(value) = parse(trim(line)) else {
+            return Taken::Skip { next: end };
+        };
+        Taken::Push { value, next: end }
+    } else {
+        Taken::BadInput
+    }
+}
+
+// "CharIn pushes its first character", which is the newline where the line has no other.
+pub fn char_in(input: &[u8], at: usize) -> Taken
+    ensures { λ r. ⌜ Takes charOf (now (input .entry)) at r ⌝ }
+{
+    if input.len() <= at {
+        return Taken::Skip { next: at };
+    }
+    let end = line_end(input, at);
+    let line = &input[at..end];
+    if is_utf8(line) {
+        let Decoded::Char { cp, next: _ } = decode(line, 0) else {
+            return Taken::Skip { next: end };
+        };
+        Taken::Push {
+            value: cp as i64,
+            next: end,
+        }
+    } else {
+        Taken::BadInput
+    }
+}

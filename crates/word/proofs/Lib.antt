@@ -1,0 +1,4 @@
+-- Laws that several proofs of this crate and of those above it cite.
+pub mod Signed
+pub mod Wrapping
+pub mod Only

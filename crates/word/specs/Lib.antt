@@ -1,0 +1,2 @@
+-- The machine's numbers.
+pub mod Word

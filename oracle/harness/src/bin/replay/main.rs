@@ -1,0 +1,75 @@
+//! Writes what the test programs that replay the Rust's answers have to print.
+mod questions;
+
+use harness::lines::{char_in, int_in};
+use harness::numbers::{classify, decode, palette};
+use std::io::{stdout, Write};
+use std::process::ExitCode;
+
+const USAGE: &str = "usage: replay pixels | replay colours | replay questions | replay lines FILE";
+
+fn main() -> ExitCode {
+    let arguments: Vec<String> = std::env::args().skip(1).collect();
+    let words: Vec<&str> = arguments.iter().map(String::as_str).collect();
+    let written = match words[..] {
+        ["pixels"] => Ok(pixels().as_flattened().to_vec()),
+        ["colours"] => Ok(colours().into_bytes()),
+        ["questions"] => Ok(questions::records()),
+        ["lines", file] => lines(file).map(String::into_bytes),
+        _ => Err(USAGE.into()),
+    };
+    match written.and_then(|bytes| stdout().write_all(&bytes).map_err(|e| e.to_string())) {
+        Ok(()) => ExitCode::SUCCESS,
+        Err(why) => {
+            eprintln!("replay: {why}");
+            ExitCode::from(2)
+        }
+    }
+}
+
+/// The pixels that are classified: each colour and its neighbours.
+fn pixels() -> Vec<[u8; 3]> {
+    palette().into_iter().flat_map(variations).collect()
+}
+
+fn colours() -> String {
+    let decoded = (0..20).map(decoded_from);
+    decoded.chain(pixels().into_iter().map(classified)).collect()
+}
+
+/// The line of instructions from one colour to each.
+fn decoded_from(from: u8) -> String {
+    let row: Vec<String> = (0..20).map(|to| decode(from, to).to_string()).collect();
+    row.join(" ") + "\n"
+}
+
+/// A pixel, and its six neighbours that differ by one in one byte.
+fn variations(pixel: [u8; 3]) -> Vec<[u8; 3]> {
+    let mut all = vec![pixel];
+    for channel in 0..3 {
+        for change in [1, u8::MAX] {
+            let mut other = pixel;
+            other[channel] = pixel[channel].wrapping_add(change);
+            all.push(other);
+        }
+    }
+    all
+}
+
+/// The line of a pixel's colour numbers under settings 1, 2 and 3.
+fn classified(pixel: [u8; 3]) -> String {
+    let word = |setting| classify(pixel, setting).map_or("x".into(), |n| n.to_string());
+    let words: Vec<String> = (1..=3).map(word).collect();
+    words.join(" ") + "\n"
+}
+
+fn lines(file: &str) -> Result<String, String> {
+    let bytes = std::fs::read(file).map_err(|e| format!("{file}: {e}"))?;
+    Ok(questions::read(&bytes)?.into_iter().map(line).collect())
+}
+
+/// What CharIn and IntIn do with one input, each with the bytes it consumes.
+fn line(input: &[u8]) -> String {
+    let ((c, c_used), (i, i_used)) = (char_in(input), int_in(input));
+    format!("c {c} {c_used} i {i} {i_used}\n")
+}

@@ -1,0 +1,8 @@
+//! Asks the given Rust and puts its answers into the numbers of document 01. Nothing here decides
+//! what the Rust decides.
+pub mod job;
+pub mod lines;
+pub mod machine;
+pub mod numbers;
+pub mod outside;
+pub mod picture;

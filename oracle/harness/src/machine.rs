@@ -1,0 +1,223 @@
+//! The run: as the Rust has it, in lent room, and one instruction alone.
+use crate::numbers::instruction;
+use crate::outside::{caught, with_input};
+use interpreter::interpreter::Interpreter;
+use piet_core::cfg::{Node, CFG};
+use piet_core::flow::DIRECTIONS;
+use piet_core::instruction::StdOutWrapper;
+use piet_core::settings::{InterpreterSettings, Verbosity};
+use piet_core::state::{ExecutionState, ExecutionStatus};
+use std::cell::Cell;
+use std::fmt::{Display, Formatter};
+
+pub struct Terms<'a> {
+    pub limit: u64,
+    pub is_abstract: bool,
+    pub input: &'a [u8],
+}
+
+pub struct Room {
+    pub stack: usize,
+    pub outputs: usize,
+}
+
+/// The result of a run; displayed as the run program prints it.
+#[derive(Clone, Debug, PartialEq, Eq)]
+pub struct Answer {
+    /// 0 stands for running, which only a single instruction leaves behind
+    pub status: u32,
+    pub steps: u64,
+    pub label: String,
+    pub dp: u32,
+    pub cc: u32,
+    /// top first
+    pub stack: Vec<i64>,
+    pub outputs: Vec<Output>,
+    /// bytes of input
+    pub used: usize,
+}
+
+#[derive(Clone, Copy, Debug, PartialEq, Eq)]
+pub enum Output {
+    Char(i64),
+    Int(i64),
+}
+
+const STACK_FULL: u32 = 4;
+const OUTPUT_FULL: u32 = 5;
+const BAD_INPUT: u32 = 6;
+
+/// What `expect` says in both input instructions where a line is not UTF-8.
+pub const BAD_LINE: &str = "Failed to read input";
+
+impl Answer {
+    fn of(s: ExecutionState, used: usize) -> Self {
+        Answer {
+            status: match s.status {
+                ExecutionStatus::Running => 0,
+                ExecutionStatus::Completed => 1,
+                ExecutionStatus::MaxSteps => 2,
+                ExecutionStatus::NeedsInput => 3,
+            },
+            steps: s.steps,
+            label: s.cb_label,
+            dp: s.pointers.dp as u32,
+            cc: s.pointers.cc as u32,
+            stack: s.stack.into(),
+            outputs: s.stdout.iter().map(Output::of).collect(),
+            used,
+        }
+    }
+}
+
+impl Output {
+    fn of(given: &StdOutWrapper) -> Self {
+        match *given {
+            StdOutWrapper::Char(c) => Output::Char(c as i64),
+            StdOutWrapper::Int(i) => Output::Int(i),
+        }
+    }
+}
+
+impl Display for Answer {
+    fn fmt(&self, f: &mut Formatter) -> std::fmt::Result {
+        writeln!(f, "status {}\nsteps {}", self.status, self.steps)?;
+        writeln!(f, "at {} {} {}", self.label, self.dp, self.cc)?;
+        writeln!(f, "stack {}", counted(&self.stack))?;
+        writeln!(f, "out {}", counted(&self.outputs))
+    }
+}
+
+impl Display for Output {
+    fn fmt(&self, f: &mut Formatter) -> std::fmt::Result {
+        match self {
+            Output::Char(c) => write!(f, "c{c}"),
+            Output::Int(i) => write!(f, "i{i}"),
+        }
+    }
+}
+
+fn counted<T: Display>(values: &[T]) -> String {
+    let each = values.iter().map(|v| format!(" {v}"));
+    format!("{}{}", values.len(), each.collect::<String>())
+}
+
+fn interpreter<'a>(cfg: &'a CFG, terms: &Terms) -> Interpreter<'a> {
+    let settings = InterpreterSettings {
+        verbosity: Verbosity::Low,
+        max_steps: Some(terms.limit),
+        abstract_interp: terms.is_abstract,
+        print: false,
+        ..InterpreterSettings::default()
+    };
+    Interpreter::new(cfg, settings)
+}
+
+/// `Interpreter::get_entry`, or its panic.
+pub fn entry(cfg: &CFG) -> Result<Node, String> {
+    let terms = Terms { limit: 0, is_abstract: false, input: b"" };
+    caught(|| interpreter(cfg, &terms).get_entry())
+}
+
+/// `Interpreter::run` as it stands, or its panic.
+pub fn run(cfg: &CFG, terms: &Terms) -> Result<Answer, String> {
+    let (state, used) = with_input(terms.input, || interpreter(cfg, terms).run());
+    state.map(|s| Answer::of(s, used))
+}
+
+/// A run in lent room. With a panic's text, the Rust panics in the next step where document 01
+/// chooses, and the answer is as before that step.
+pub struct Judged {
+    pub answer: Answer,
+    pub panic: Option<String>,
+}
+
+/// The Rust has no room to run out of. So a walk finds the first step that passes the room or
+/// panics, and `run` itself is asked for the states on both sides of it. Needs an entry.
+pub fn run_in_room(cfg: &CFG, terms: &Terms, room: &Room) -> Judged {
+    let (steps, stop) = walk(cfg, terms, room);
+    if stop == Ok(0) {
+        let answer = run(cfg, terms).expect("the walk met no panic");
+        return Judged { answer, panic: None };
+    }
+    let upto = |limit| run(cfg, &Terms { limit, ..*terms });
+    let mut answer = upto(steps).expect("the walk met no panic so far");
+    assert_eq!((answer.status, answer.steps), (2, steps));
+    confirm(&stop, &answer, upto(steps + 1), room);
+    let (status, panic) = match stop {
+        Ok(status) => (status, None),
+        Err(text) if text.starts_with(BAD_LINE) => (BAD_INPUT, None),
+        Err(text) => (answer.status, Some(text)),
+    };
+    answer.status = status;
+    Judged { answer, panic }
+}
+
+/// The number of steps before the first one that passes the room or panics, and which it is; 0
+/// where the run ends without one.
+fn walk(cfg: &CFG, terms: &Terms, room: &Room) -> (u64, Result<u32, String>) {
+    let steps = Cell::new(0);
+    let (stop, _) = with_input(terms.input, || {
+        let mut machine = interpreter(cfg, terms);
+        let mut block = machine.get_entry();
+        while steps.get() != terms.limit && machine.is_complete() != ExecutionStatus::NeedsInput {
+            machine.open_state().cb_count = block.get_region_size();
+            let (Some(next), instruction) = machine.next_block(block) else {
+                break;
+            };
+            block = next;
+            if let Some(i) = instruction {
+                let _skipped = machine.exec_instr(i);
+            }
+            if machine.open_state().stack.len() > room.stack {
+                return STACK_FULL;
+            }
+            if machine.open_state().stdout.len() > room.outputs {
+                return OUTPUT_FULL;
+            }
+            steps.set(steps.get() + 1);
+        }
+        0
+    });
+    (steps.get(), stop)
+}
+
+fn confirm(
+    stop: &Result<u32, String>,
+    before: &Answer,
+    after: Result<Answer, String>,
+    room: &Room,
+) {
+    assert!(before.stack.len() <= room.stack && before.outputs.len() <= room.outputs);
+    match (stop, after) {
+        (Ok(STACK_FULL), Ok(after)) => assert!(after.stack.len() > room.stack),
+        (Ok(OUTPUT_FULL), Ok(after)) => assert!(after.outputs.len() > room.outputs),
+        (Err(walked), Err(ran)) => assert_eq!(*walked, ran),
+        _ => panic!("walk and run differ"),
+    }
+}
+
+/// What stands before one instruction; the stack has its top first.
+pub struct Before<'a> {
+    pub size: u64,
+    pub state: u8,
+    pub stack: &'a [i64],
+    pub input: &'a [u8],
+    pub is_abstract: bool,
+}
+
+/// `exec_instr` alone, or its panic.
+pub fn execute(number: u8, before: &Before) -> Result<Answer, String> {
+    let cfg = CFG::new();
+    let terms = Terms { limit: 1, is_abstract: before.is_abstract, input: before.input };
+    let (state, used) = with_input(before.input, || {
+        let mut machine = interpreter(&cfg, &terms);
+        let state = machine.open_state();
+        state.stack = before.stack.iter().copied().collect();
+        state.pointers = DIRECTIONS[before.state as usize];
+        state.cb_count = before.size;
+        let _skipped = machine.exec_instr(instruction(number));
+        machine.get_state()
+    });
+    state.map(|s| Answer::of(s, used))
+}
