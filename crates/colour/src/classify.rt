@@ -17,9 +17,9 @@ ghost use Rattle.colour.specs.Classify.{
   shade,
   shades,
 };
-use base::limits::wrong_side;
 use crate::palette::Found;
 use crate::palette::colour_of;
+use base::limits::wrong_side;
 
 // What a call answers: done, or a refusal, with the place of an unknown pixel.
 pub enum Classified {

@@ -61,3 +61,6 @@ frames-shape {colours} {s} f = λ i. record {
   rows = f .rows-are i;
   cols = f .cols-are i;
 }
+
+pub frames-count : {colours : List ℕ} {s : Shape} → Frames colours s → s .rows * s .cols ≡ codels (pictureOf colours s)
+frames-count f = rw (f .rows-are, f .cols-are)

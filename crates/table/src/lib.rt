@@ -7,9 +7,13 @@ ghost use Rattle.table.specs.ExitNumber.{exitNumber, targetOf, stateOf, 
 
 // The fields of a row.
 pub const COLOUR: usize = 0;
+
 pub const SIZE: usize = 1;
+
 pub const FIRST_ROW: usize = 2;
+
 pub const FIRST_COLUMN: usize = 3;
+
 pub const MARK: usize = 4;
 
 // The cell of a field of region r's row.

@@ -1,0 +1,11 @@
+-- Laws that belong to no one function.
+pub mod NodeLaws
+pub mod TableLaws
+pub mod Bare
+pub mod Queueing
+pub mod Trying
+pub mod Searching
+pub mod Keeping
+pub mod Stages
+pub mod Refusing
+pub mod Leads

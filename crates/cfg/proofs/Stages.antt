@@ -1,0 +1,244 @@
+-- The stages of building, put together.
+--     ready      what the search begins with, after the map, the rows and the codels to leave by
+--     builds     the whole table
+-- Assumes nothing.
+use mathlib.Core.Path.{_≡_, refl, sym, subst, _∙_}
+use mathlib.Core.Logic.{_≢_, by-cases}
+use mathlib.Core.Bool.{Bool, true, false, cond, not, true≢false}
+use mathlib.Core.List.{List, [], _∷_, append-nil}
+use Prim.Native.Nat.{ℕ, zero, suc, _+_, _*_, _/_, _%_, _<_, _≤_}
+use native.Mathlib.Nat.{le-of-suc-le-suc, not-suc-le-zero}
+use native.Mathlib.Decide.{decLt, ℕ-discrete}
+use native.Mathlib.Omega.{arith}
+use borrow.Author.Tests.{eqb-true, eqb-false}
+use lib.Dec.{eqb}
+use lib.ListN.{length, getD, replicate}
+use lib.Seq.{drop-length}
+use Rattle.base.specs.Lent.{filled}
+use Rattle.base.proofs.Over.{filled-zero}
+use Rattle.flow.specs.Pointer.{ofNumber}
+use Rattle.flow.proofs.Order.{valid-number}
+use Rattle.cfg.specs.Nodes.{Adds, beside, astray, over, landing, Found, entry, next, Node}
+use Rattle.cfg.specs.Table.{Marks, is, none, Row, Exit, node, no-node, Builds}
+use Rattle.cfg.specs.Search.{mark, Placed, Grounds, Occurs, Begun, Ready, Searched, isNode, Kept, stays, goes, Cleared}
+use Rattle.table.specs.Layout.{rowCell, markField, colourField, exitCell, rowsRoom, exitsRoom}
+use Rattle.picture.specs.Picture.{Picture, rowsOf, colsOf, codels, hueAt}
+use Rattle.exit.specs.declared.attempt.Way.{Way}
+use Rattle.colour.specs.Palette.{white}
+use Rattle.exit.specs.Keeping.{Mapped, AllKept, cellOf}
+use Rattle.region.proofs.MapLaws.{map-low}
+use Rattle.region.specs.Rows.{Blank}
+use Rattle.picture.proofs.Codels.{cols-pos, first-in, inside-of}
+use Rattle.cfg.proofs.NodeLaws.{joined-hue}
+use Rattle.region.specs.Grid.{gridOf}
+use Rattle.cfg.proofs.Queueing.{region-occurs}
+use Rattle.cfg.proofs.Trying.{placed}
+
+-- past a list's end
+pub beyond : (l : List ℕ) (k : ℕ) → length l ≤ k → getD l k 0 ≡ 0
+beyond [] k h = refl
+beyond (x ∷ l) zero h = absurd (not-suc-le-zero h)
+beyond (x ∷ l) (suc k) h = beyond l k (le-of-suc-le-suc h)
+
+pub zero-at : (n k : ℕ) → getD {A = ℕ} (replicate n 0) k 0 ≡ 0
+zero-at zero k = refl
+zero-at (suc n) zero = refl
+zero-at (suc n) (suc k) = zero-at n k
+
+-- a row of zeros, cell by cell
+blank-at : (t : List ℕ) (r : ℕ) → Blank t r → (c : ℕ) → c < 5 → getD t (rowCell r c) 0 ≡ 0
+blank-at t r b zero h = b .colour
+blank-at t r b (suc zero) h = b .size
+blank-at t r b (suc (suc zero)) h = b .row
+blank-at t r b (suc (suc (suc zero))) h = b .col
+blank-at t r b (suc (suc (suc (suc zero)))) h = b .node
+blank-at t r b (suc (suc (suc (suc (suc c))))) h = absurd (omega arith)
+
+module _ {p : Picture} {map : List ℕ} {n : ℕ} {rows : List ℕ} (B : Begun p map n rows) where
+  pub grounds : Grounds p map
+  grounds = record {
+    sound = B .sound;
+    long = B .map-long;
+    low = λ j h. omega (arith, map-low (gridOf p) map n (B .regions) j h);
+  }
+
+  pub mapped : (cells : ℕ) → cells ≡ exitsRoom (codels p) → Mapped map cells (rowsOf p) (colsOf p)
+  mapped cells e = record {
+    grid = B .map-long;
+    cols-pos = cols-pos (B .sound);
+    some = omega (arith, B .map-long, first-in (B .sound));
+    few = omega (arith, B .map-long, B .sound .few);
+    numbered = λ k h. omega (arith, map-low (gridOf p) map n (B .regions) k (omega (arith, B .map-long)), B .map-long);
+    room = omega (arith, B .map-long);
+  }
+
+  -- the rows past the regions
+  rest-at : (k : ℕ) → n * 5 ≤ k → getD rows k 0 ≡ 0
+  rest-at k h =
+      by-cases (decLt (k / 5) (codels p))
+      (λ i.
+      let e : k / 5 * 5 + k % 5 ≡ k = omega arith in
+      let c : k % 5 < 5 = omega arith in
+      rw e at (blank-at rows (k / 5) (B .table .rest (k / 5) (omega arith) i) (k % 5) c))
+      (λ i. beyond rows k (omega (arith, B .rows-long)))
+
+  unmarked : (r : ℕ) → mark rows r ≡ 0
+  unmarked r = by-cases (decLt r n) (λ h. B .table .rows r h .node) (λ h. rest-at (rowCell r markField) (omega arith))
+
+  pub ready : {exits work : List ℕ} → AllKept map (replicate (exitsRoom (codels p)) 0) exits (rowsOf p) (colsOf p) 8 → length exits ≡ exitsRoom (codels p) → length work ≡ codels p → Ready p map rows exits work
+  ready {exits} {work} K el wl = record {
+    grounds = grounds;
+    rows-long = B .rows-long;
+    exits-long = el;
+    work-long = wl;
+    first = omega (arith, map-low (gridOf p) map n (B .regions) 0 (first-in (B .sound)));
+    unmarked = unmarked;
+    leaving = λ j h s i.
+        let e : cellOf map (ofNumber s) j ≡ exitCell (getD map j 0) s = omega arith in
+        rw e at (K .leaves s i j h);
+  }
+
+  -- a found region has a codel, and so a number below n
+  found-occurs : {r : ℕ} → Found p map r → Occurs map r
+  found-occurs entry = record {
+    codel = 0;
+    inside = omega (arith, B .map-long, first-in (B .sound));
+    own = omega (arith, map-low (gridOf p) map n (B .regions) 0 (first-in (B .sound)));
+  }
+  found-occurs (next {q = q} {w = w} f h t a) =
+      added w q (placed (inside-of (B .sound) (t .codel) (omega (arith, t .leaves .codel, B .map-long))) (valid-number _ h) (t .way)) a
+    where
+      added : (w : Way) (q : ℕ) → Placed p w → Adds p map w q → Occurs map q
+      added w q i (beside {a = a} {b = b}) = region-occurs grounds a b i
+      added w q i (astray {a = a} {b = b}) = region-occurs grounds a b i
+      added w q i (over {a = a} {b = b}) = region-occurs grounds a b (i .0)
+      added w q i (landing {c = c} {d = d}) = region-occurs grounds c d (i .1)
+
+  found-low : {r : ℕ} → Found p map r → r < n
+  found-low f =
+      let o = found-occurs f in
+      omega (arith, B .regions .below (o .codel) (omega (arith, o .inside, B .map-long)), o .own)
+
+  module _ {exits rows′ exits′ rows″ exits″ : List ℕ} (K : AllKept map (replicate (exitsRoom (codels p)) 0) exits (rowsOf p) (colsOf p) 8)
+      (S : Searched p map rows exits rows′ exits′) (C : Cleared n rows′ exits′ rows″ exits″) where
+    -- a row's first four cells stay
+    cell : (r c : ℕ) → c < 4 → getD rows″ (rowCell r c) 0 ≡ getD rows (rowCell r c) 0
+    cell r c h = C .rows-same (rowCell r c) (λ q i. omega arith) ∙ S .cells r c h
+
+    -- the colour cell is the hue of each codel of the region
+    colour-cell : (r : ℕ) → r < n → (i : ℕ) → i < codels p → getD map i 0 ≡ r → getD rows′ (rowCell r colourField) 0 ≡ hueAt p i
+    colour-cell r h i l e =
+        let t = B .table .rows r h in
+        let c : getD rows′ (rowCell r colourField) 0 ≡ getD rows (rowCell r colourField) 0 = S .cells r 0 (omega arith) in
+        c ∙ t .colour ∙ joined-hue (B .regions .apart (t .first) i (t .is .inside) l (t .is .has ∙ sym e))
+
+    -- a region that is kept is a node, and one that is not kept is none
+    marked-is : {r x : ℕ} → Marks (Found p map r) x → x ≢ 0 → Found p map r × (x ≡ 1)
+    marked-is (is f) d = (f, refl)
+    marked-is (none f) d = absurd (d refl)
+
+    unmarked-not : {r x : ℕ} → Marks (Found p map r) x → x ≡ 0 → Found p map r → ⊥
+    unmarked-not (is f) e g = omega arith
+    unmarked-not (none f) e g = f g
+
+    tests : (r : ℕ) → isNode rows′ r ≡ true → (getD rows′ (rowCell r colourField) 0 ≢ white) × (mark rows′ r ≢ 0)
+    tests r e = first (eqb (getD rows′ (rowCell r colourField) 0) 19) refl e
+      where
+        second : (b : Bool) → eqb (mark rows′ r) 0 ≡ b → not b ≡ true → mark rows′ r ≢ 0
+        second true h k = absurd (true≢false (sym k))
+        second false h k = eqb-false _ _ h
+
+        first : (b : Bool) → eqb (getD rows′ (rowCell r colourField) 0) 19 ≡ b → cond b false (not (eqb (mark rows′ r) 0)) ≡ true → (getD rows′ (rowCell r colourField) 0 ≢ white) × (mark rows′ r ≢ 0)
+        first true h k = absurd (true≢false (sym k))
+        first false h k = (eqb-false _ _ h, second (eqb (mark rows′ r) 0) refl k)
+
+    is-node : (r : ℕ) → r < n → isNode rows′ r ≡ true → Node p map r × (mark rows′ r ≡ 1)
+    is-node r h e =
+        let t = tests r e in
+        let f = marked-is (S .marks r) (t .1) in
+        (record { found = f .0; coloured = λ w. t .0 (colour-cell r h (w .codel) (w .inside) (w .own) ∙ w .hue) }, f .1)
+
+    never-node : (r : ℕ) → r < n → isNode rows′ r ≡ false → Node p map r → ⊥
+    never-node r h e N = first (eqb (getD rows′ (rowCell r colourField) 0) 19) refl e
+      where
+        second : (b : Bool) → eqb (mark rows′ r) 0 ≡ b → not b ≡ false → ⊥
+        second true m k = unmarked-not (S .marks r) (eqb-true _ _ m) (N .found)
+        second false m k = true≢false k
+
+        first : (b : Bool) → eqb (getD rows′ (rowCell r colourField) 0) 19 ≡ b → cond b false (not (eqb (mark rows′ r) 0)) ≡ false → ⊥
+        first true m k =
+            let t = B .table .rows r h in
+            N .coloured (record {
+              codel = t .first;
+              inside = t .is .inside;
+              own = t .is .has;
+              hue = sym (colour-cell r h (t .first) (t .is .inside) (t .is .has)) ∙ eqb-true _ _ m;
+            })
+        first false m k = second (eqb (mark rows′ r) 0) refl k
+
+    node-mark : (r : ℕ) → r < n → Kept r rows′ exits′ rows″ exits″ → Marks (Node p map r) (mark rows″ r)
+    node-mark r h (stays e m x) = let d = is-node r h e in subst (Marks (Node p map r)) (sym (m ∙ d .1)) (is (d .0))
+    node-mark r h (goes e m x) = subst (Marks (Node p map r)) (sym m) (none (never-node r h e))
+
+    exit-at : (r s : ℕ) → r < n → s < 8 → Kept r rows′ exits′ rows″ exits″ → Exit p map r s (getD exits″ (exitCell r s) 0)
+    exit-at r s h i (stays e m x) =
+        let d = is-node r h e in
+        let a = S .settled r (d .0 .found) s i in
+        subst (Exit p map r s) (sym (x s i ∙ a .number)) (node (d .0) (a .tried))
+    exit-at r s h i (goes e m x) = subst (Exit p map r s) (sym (x s i)) (no-node (never-node r h e))
+
+    row-at : (r : ℕ) → r < n → Row p map rows″ r
+    row-at r h =
+        let t = B .table .rows r h in
+        record {
+          first = t .first;
+          is-first = t .is;
+          colour = cell r 0 (omega arith) ∙ t .colour;
+          size = cell r 1 (omega arith) ∙ t .size;
+          row = cell r 2 (omega arith) ∙ t .row;
+          column = cell r 3 (omega arith) ∙ t .col;
+          node = node-mark r h (C .each r h);
+        }
+
+    not-found : {r : ℕ} → n ≤ r → Found p map r → ⊥
+    not-found h f = omega (arith, found-low f)
+
+    rows-rest : (k : ℕ) → n * 5 ≤ k → getD rows″ k 0 ≡ 0
+    rows-rest k h =
+        C .rows-same k (λ r i. omega arith)
+        ∙ by-cases (decLt (k % 5) 4)
+        (λ c.
+        let e : k / 5 * 5 + k % 5 ≡ k = omega arith in
+        (rw e at (S .cells (k / 5) (k % 5) c)) ∙ rest-at k h)
+        (λ c.
+        let e : k / 5 * 5 + 4 ≡ k = omega arith in
+        let z : mark rows′ (k / 5) ≡ 0 = zero-mark (k / 5) (omega arith) in
+        rw e at z)
+      where
+        zero-mark : (r : ℕ) → n ≤ r → mark rows′ r ≡ 0
+        zero-mark r h = by-cases (ℕ-discrete (mark rows′ r) 0) (λ e. e) (λ d. absurd (not-found h (marked-is (S .marks r) d .0)))
+
+    exits-rest : (k : ℕ) → 8 * n ≤ k → getD exits″ k 0 ≡ 0
+    exits-rest k h =
+        C .exits-same k h
+        ∙ S .same k (not-found (omega arith))
+        ∙ K .others k (λ s i j l e. omega (arith, B .regions .below j (omega (arith, B .map-long))))
+        ∙ zero-at (exitsRoom (codels p)) k
+
+    pub builds : {work : List ℕ} → length rows″ ≡ rowsRoom (codels p) → length exits″ ≡ exitsRoom (codels p) → work ≡ replicate (codels p) 0 → Builds p map rows″ exits″ work n
+    builds rl el w = record {
+      map-long = B .map-long;
+      rows-long = rl;
+      exits-long = el;
+      regions = B .regions;
+      row = row-at;
+      exit = λ r s h i. exit-at r s h i (C .each r h);
+      rows-rest = rows-rest;
+      exits-rest = exits-rest;
+      work-zero = w;
+    }
+
+-- a work slice of exactly n cells, cleared
+pub cleared-work : (p : Picture) (w : List ℕ) {x : List ℕ} → length w ≡ codels p → x ≡ filled 0 (length w) 0 w → x ≡ replicate (codels p) 0
+cleared-work p w l e =
+    e ∙ filled-zero w (length w) 0 ∙ rw (drop-length w, append-nil, l)

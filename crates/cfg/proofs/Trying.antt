@@ -1,0 +1,132 @@
+-- One attempt of a region, and the eight of them.
+--     placed          the codels of a way are in the grid
+--     tries           one state is settled
+--     several-none, several-more
+-- Assumes nothing.
+use mathlib.Core.Path.{_≡_, refl, ap, _∙_}
+use mathlib.Core.Logic.{_≢_, by-cases}
+use mathlib.Core.List.{List}
+use Prim.Native.Nat.{ℕ, _+_, _*_, _/_, _%_, _<_, _≤_}
+use native.Mathlib.Decide.{decLt}
+use native.Mathlib.Omega.{arith}
+use lib.ListN.{length, getD, set, length-set}
+use lib.Seq.{getD-set-same, getD-set-other}
+use Rattle.flow.specs.Pointer.{Valid, numberOf, ofNumber}
+use Rattle.flow.specs.declared.PointerState.{PointerState}
+use Rattle.cfg.specs.Nodes.{Tried, wayNumber, Found, next}
+use Rattle.cfg.specs.Search.{mark, Queued, Placed, Grounds, Queue, Settled, Tries, Several, Taken}
+use Rattle.table.specs.Layout.{exitCell, exitsRoom}
+use Rattle.exit.specs.declared.attempt.Way.{Way}
+use Rattle.exit.specs.declared.attempt.Way.the-variants.{Step, Glide}
+use Rattle.colour.specs.Decode.{decodeOf}
+use Rattle.picture.specs.Picture.{Picture, Inside, rowsOf, colsOf, colourAt, codels, hueAt}
+use Rattle.exit.specs.Attempt.{Attempt, shut, step, glide, lost}
+use Rattle.exit.proofs.SlideLaws.{white-inside, coloured-inside}
+use Rattle.exit.proofs.SlideEnds.{landing}
+use Rattle.exit.specs.Leaving.{Leaves}
+use Rattle.picture.proofs.Codels.{inside-of}
+use Rattle.table.specs.ExitNumber.{exitNumber}
+use Rattle.cfg.proofs.Queueing.{at-in, region-low, queued, onward-none, onward-more}
+
+pub placed : {p : Picture} {r c : ℕ} {s : PointerState} {w : Way} → Inside p r c → Valid s → Attempt p r c s w → Placed p w
+placed i v (shut e) = omega arith
+placed {p} {r} {c} {s} i v (step {r′ = a} {c′ = b} e) = coloured-inside p r c (s .dp) i e
+placed {p} {r} {c} {s} i v (glide {r′ = a} {c′ = b} e d) =
+    let j = white-inside p r c (s .dp) i e in
+    let l = landing d j v in
+    (j, l .place, l .valid)
+placed {p} {r} {c} {s} i v (lost {r′ = a} {c′ = b} e d) = white-inside p r c (s .dp) i e
+
+pub tries : {p : Picture} {map : List ℕ} {r s i v : ℕ} {w : Way} {rows exits work : List ℕ} {tail : ℕ} {rows′ work′ : List ℕ} {tail′ : ℕ}
+    → Grounds p map → Found p map r → Queue p map rows work tail → length work ≡ codels p → s < 8
+    → Leaves map (rowsOf p) (colsOf p) (ofNumber s) r i → Attempt p (i / colsOf p) (i % colsOf p) (ofNumber s) w → Placed p w
+    → v ≡ wayNumber p map (hueAt p i) s w → Queued map (colsOf p) rows work tail w rows′ work′ tail′
+    → Tries p map r s rows exits work tail rows′ (set exits (exitCell r s) v) work′ tail′
+tries {p} {map} {r} {s} {i} {v} {w} G f Q long h l a inside e d =
+    let t : Tried p map r s w = record { codel = i; leaves = l; way = a } in
+    let x = queued G Q long inside (λ q z. next f h t z) d in
+    record {
+      onward = x .0;
+      value = v;
+      stored = refl;
+      settled = record { is = record { way = w; tried = t; number = e }; marked = x .1 };
+    }
+
+pub several-none : {p : Picture} {map : List ℕ} (r : ℕ) {rows : List ℕ} (exits : List ℕ) {work : List ℕ} {tail : ℕ} → Queue p map rows work tail → Several p map r 0 rows exits work tail rows exits work tail
+several-none r exits Q = record { onward = onward-none Q; settled = λ s h. absurd (omega arith); same = λ x h. refl; exits-length = refl }
+
+pub settled-on : {p : Picture} {map rows rows′ : List ℕ} {r s x : ℕ} → ((q : ℕ) → mark rows q ≡ 1 → mark rows′ q ≡ 1) → Settled p map rows r s x → Settled p map rows′ r s x
+settled-on m t = record { is = t .is; marked = λ q d. m q (t .marked q d) }
+
+module _ {p : Picture} {map : List ℕ} {r k : ℕ} {rows exits work : List ℕ} {tail : ℕ} {rows′ exits′ work′ : List ℕ} {tail′ : ℕ} {rows″ exits″ work″ : List ℕ} {tail″ : ℕ}
+    (a : Several p map r k rows exits work tail rows′ exits′ work′ tail′) (t : Tries p map r k rows′ exits′ work′ tail′ rows″ exits″ work″ tail″) (inside : exitCell r k < length exits′) where
+  apart : (x : ℕ) → x ≢ exitCell r k → getD exits″ x 0 ≡ getD exits′ x 0
+  apart x d = rw (t .stored) (getD-set-other exits′ (exitCell r k) x (t .value) 0 d)
+
+  here : getD exits″ (exitCell r k) 0 ≡ t .value
+  here = rw (t .stored) (getD-set-same exits′ (exitCell r k) (t .value) 0 inside)
+
+  settled : (s : ℕ) → s < k + 1 → Settled p map rows″ r s (getD exits″ (exitCell r s) 0)
+  settled s h =
+      by-cases (decLt s k)
+      (λ i. rw (apart (exitCell r s) (omega arith)) (settled-on (t .onward .marks) (a .settled s i)))
+      (λ i. let e : s ≡ k = omega arith in rw (e, here) (t .settled))
+
+  pub several-more : Several p map r (k + 1) rows exits work tail rows″ exits″ work″ tail″
+  several-more = record {
+    onward = onward-more (a .onward) (t .onward);
+    settled = settled;
+    same = λ x h. apart x (h k (omega arith)) ∙ a .same x (λ s i. h s (omega arith));
+    exits-length = ap length (t .stored) ∙ length-set exits′ (exitCell r k) (t .value) ∙ a .exits-length;
+  }
+
+-- the exit number of a way, from what the code reads
+pub exit-needs : {p : Picture} {map : List ℕ} → Grounds p map → (a b cols : ℕ) → Inside p a b → cols ≡ colsOf p → (a * cols + b < length map) × (getD map (a * cols + b) 0 < 65536)
+exit-needs G a b cols i e = rw e (at-in G a b i, omega (arith, region-low G a b i, G .sound .few))
+
+pub exit-small : {p : Picture} {map : List ℕ} → Grounds p map → (a b cols : ℕ) → Inside p a b → cols ≡ colsOf p → a * cols + b < 65536
+exit-small G a b cols i e = omega (arith, exit-needs G a b cols i e .0, G .long, G .sound .few)
+
+module _ (p : Picture) (map : List ℕ) (from s x cols : ℕ) (e : cols ≡ colsOf p) where
+  pub step-number : (a b i to : ℕ) → x ≡ exitNumber (getD map (a * cols + b) 0) s i → i ≡ decodeOf from to → to ≡ colourAt p a b → x ≡ wayNumber p map from s (Step a b)
+  unfolding wayNumber
+  step-number a b i to n d t = rw (n, e, d, t)
+
+  pub glide-number : (a b c d n : ℕ) (t : PointerState) → x ≡ exitNumber (getD map (c * cols + d) 0) n 0 → n ≡ numberOf t → x ≡ wayNumber p map from s (Glide a b c d t)
+  unfolding wayNumber
+  glide-number a b c d n t h k = rw (h, e, k)
+
+-- what the code reads of the codel to leave by: j is its index, i and cols are what was read
+module _ {p : Picture} {map : List ℕ} {r j : ℕ} (s : ℕ) (G : Grounds p map) (l : Leaves map (rowsOf p) (colsOf p) (ofNumber s) r j) {i cols : ℕ} (ei : i ≡ j) (ec : cols ≡ colsOf p) where
+  pub leave-inside : Inside p (i / cols) (i % cols)
+  leave-inside = rw (ei, ec) (inside-of (G .sound) j (omega (arith, l .codel, G .long)))
+
+  pub tries-read : {v from : ℕ} {q : PointerState} {w : Way} {rows exits work : List ℕ} {tail : ℕ} {rows′ work′ : List ℕ} {tail′ : ℕ}
+      → Found p map r → Queue p map rows work tail → length work ≡ codels p → s < 8
+      → q ≡ ofNumber s → Attempt p (i / cols) (i % cols) q w → Placed p w
+      → from ≡ colourAt p (i / cols) (i % cols) → v ≡ wayNumber p map from s w → Queued map (colsOf p) rows work tail w rows′ work′ tail′
+      → Tries p map r s rows exits work tail rows′ (set exits (exitCell r s) v) work′ tail′
+  tries-read {v} {from} {q} {w} f Q long h eq a inside ef e d =
+      let a′ : Attempt p (j / colsOf p) (j % colsOf p) (ofNumber s) w = rw (ei, ec, eq) at a in
+      let ef′ : from ≡ hueAt p j = rw (ei, ec) at ef in
+      let e′ : v ≡ wayNumber p map (hueAt p j) s w = rw ef′ at e in
+      tries G f Q long h l a′ inside e′ d
+
+-- what the next of the eight attempts asks
+pub next-needs : {F : Type 0} {p : Picture} {map : List ℕ} {r k : ℕ} {rows exits work : List ℕ} {tail : ℕ} {rows′ exits′ work′ : List ℕ} {tail′ : ℕ}
+    → Taken p map exits work r → Several p map r k rows exits work tail rows′ exits′ work′ tail′ → k < 8 → F
+    → Grounds p map × (Found p map r × (Queue p map rows′ work′ tail′ × (Leaves map (rowsOf p) (colsOf p) (ofNumber k) r (getD exits′ (exitCell r k) 0)
+    × ((length work′ ≡ codels p) × ((exitsRoom r + 8 ≤ length exits′) × ((r < 65536) × ((k < 8) × F)))))))
+next-needs {r = r} {k = k} T W h f = (
+  T .grounds,
+  (
+    T .found,
+    (
+      W .onward .queue,
+      (
+        rw (W .same (exitCell r k) (λ s i. omega arith)) (T .leaving k h),
+        (W .onward .work-length ∙ T .work-long, (omega (arith, W .exits-length, T .exits-long), (T .few, (h, f)))),
+      ),
+    ),
+  ),
+)

@@ -1,0 +1,111 @@
+-- `cfg::search::search` meets its contract: the loop's invariant is `Searching`; the measure: the codels less the regions taken.
+-- Assumes nothing.
+use mathlib.Core.Path.{_∙_}
+use Prim.Native.Nat.{_-_}
+use native.Mathlib.Omega.{arith}
+use Rattle.cfg.proofs.Queueing.{length-after}
+use Rattle.cfg.proofs.Searching.{Searching, queue-first, first-low, search-start, search-taken, search-turn, search-end, work-long}
+use Rattle.picture.specs.Picture.{pictureOf, codels}
+use Rattle.cfg.proofs.search.search.Statement.{statement}
+use Rattle.cfg.proofs.search.search.Tie as tie
+
+abbrev Inv-loop : tie.InvT-loop
+Inv-loop colours s map rows₀ exits₀ work₀ tail₀ head₀ rows exits work tail head = Searching (pictureOf colours s) map rows₀ exits₀ work₀ head rows exits work tail
+
+abbrev μ-loop : tie.MeasureT-loop
+μ-loop colours s map rows₀ exits₀ work₀ tail₀ head₀ rows exits work tail head = codels (pictureOf colours s) - head
+
+visit-requires : tie.Need-visit-requires Inv-loop μ-loop
+visit-requires c κs =
+    let the-pre = c .before .before .before .before .before .before .before .pre in
+    (queue-first (the-pre .0) .room, first-low (the-pre .0))
+
+loop-holds : tie.Need-loop-holds Inv-loop μ-loop
+loop-holds c =
+    let the-pre = c .before .before .before .before .before .before .before .before .before .before .before .before .pre in
+    let the-visit = c .before .before .before .before .visit in
+    search-start (the-pre .0) (the-visit .ensures)
+
+mul-wide : tie.Need-mul-wide Inv-loop μ-loop
+mul-wide c = omega (arith, c .loop-test .taken, c .before .loop .inv .queue .room .free, c .before .loop .inv .queue .room .few)
+
+slice-read-wide : tie.Need-slice-read-wide Inv-loop μ-loop
+slice-read-wide c =
+    let the-loop = c .before .before .loop in
+    omega (arith, c .before .loop-test .taken, the-loop .inv .queue .room .free)
+
+wide-requires : tie.Need-wide-requires Inv-loop μ-loop
+wide-requires c κs = tt
+
+try-states-requires : tie.Need-try-states-requires Inv-loop μ-loop
+try-states-requires c κs =
+    let the-wide = c .before .before .before .wide in
+    let the-pre = c .before .before .before .before .before .before .before .before .before .before .before .before .before .before .before .before .before .before .before .pre in
+    let the-visit = c .before .before .before .before .before .before .before .before .before .before .before .visit in
+    let the-loop = c .before .before .before .before .before .before .loop in
+    let the-loop-test = c .before .before .before .before .before .loop-test in
+    (rw (the-wide .ensures) (search-taken (the-pre .0) (the-visit .ensures) (the-loop .inv) (the-loop-test .taken)), (the-loop .inv .queue, the-pre .1))
+
+add-head : tie.Need-add-head Inv-loop μ-loop
+add-head c =
+    let the-loop-test = c .before .before .before .before .before .before .before .before .before .before .before .before .loop-test in
+    let the-loop = c .before .before .before .before .before .before .before .before .before .before .before .before .before .loop in
+    omega (arith, the-loop-test .taken, the-loop .inv .queue .room .free, the-loop .inv .queue .room .few)
+
+loop-less : tie.Need-loop-less Inv-loop μ-loop
+loop-less c =
+    let the-loop = c .before .before .before .before .before .before .before .before .before .before .before .before .before .loop in
+    let the-loop-test = c .before .before .before .before .before .before .before .before .before .before .before .before .loop-test in
+    let the-pre = c .before .before .before .before .before .before .before .before .before .before .before .before .before .before .before .before .before .before .before .before .before .before .before .before .before .before .pre in
+    let the-visit = c .before .before .before .before .before .before .before .before .before .before .before .before .before .before .before .before .before .before .visit in
+    let l = the-loop .inv in
+    omega (arith, the-loop-test .taken, l .queue .room .free, work-long (the-pre .0) (the-visit .ensures) l)
+
+loop-again : tie.Need-loop-again Inv-loop μ-loop
+loop-again c =
+    let the-pre = c .before .before .before .before .before .before .before .before .before .before .before .before .before .before .before .before .before .before .before .before .before .before .before .before .before .before .pre in
+    let the-visit = c .before .before .before .before .before .before .before .before .before .before .before .before .before .before .before .before .before .before .visit in
+    let the-loop = c .before .before .before .before .before .before .before .before .before .before .before .before .before .loop in
+    let the-loop-test = c .before .before .before .before .before .before .before .before .before .before .before .before .loop-test in
+    let the-wide = c .before .before .before .before .before .before .before .before .before .before .wide in
+    let the-try-states = c .before .before .before .before .before .before .try-states in
+    search-turn (the-pre .0) (the-visit .ensures) (the-loop .inv) (the-loop-test .taken) (rw (the-wide .ensures) at (the-try-states .ensures))
+
+same-length : tie.Need-same-length Inv-loop μ-loop
+same-length c =
+    let the-visit = c .before .before .before .before .before .before .visit in
+    c .before .loop .inv .rows-length ∙ length-after (the-visit .ensures) .0
+
+same-length-2 : tie.Need-same-length-2 Inv-loop μ-loop
+same-length-2 c = c .before .loop .inv .exits-length
+
+same-length-3 : tie.Need-same-length-3 Inv-loop μ-loop
+same-length-3 c =
+    let the-visit = c .before .before .before .before .before .before .visit in
+    c .before .loop .inv .work-length ∙ length-after (the-visit .ensures) .1
+
+returns : tie.Need-returns Inv-loop μ-loop
+returns c =
+    let the-pre = c .before .before .before .before .before .before .before .before .before .before .before .before .before .before .pre in
+    let the-visit = c .before .before .before .before .before .before .visit in
+    search-end (the-pre .0) (the-visit .ensures) (c .before .loop .inv) (c .loop-test .left)
+
+pub search-spec : {M : Type 1} → statement M
+search-spec =
+    tie.close
+    (tie.spec
+    Inv-loop
+    μ-loop
+    visit-requires
+    loop-holds
+    mul-wide
+    slice-read-wide
+    wide-requires
+    try-states-requires
+    add-head
+    loop-less
+    loop-again
+    same-length
+    same-length-2
+    same-length-3
+    returns)

@@ -1,0 +1,46 @@
+-- The table that building writes (document 01, "Building writes"). Assumes nothing.
+use mathlib.Core.Path.{_≡_}
+use mathlib.Core.List.{List}
+use Prim.Native.Nat.{ℕ, _*_, _/_, _%_, _<_, _≤_}
+use lib.ListN.{length, getD, replicate}
+use Rattle.cfg.specs.Nodes.{Tried, wayNumber, Node}
+use Rattle.picture.specs.Picture.{Picture, colsOf, codels, hueAt}
+use Rattle.table.specs.Layout.{colourField, sizeField, rowField, columnField, markField, rowCell, exitCell, rowsRoom, exitsRoom}
+use Rattle.region.specs.Grid.{gridOf}
+use Rattle.region.specs.Region.{IsMap}
+use Rattle.region.specs.Rows.{First}
+use Rattle.region.specs.Tally.{tally}
+use Rattle.exit.specs.declared.attempt.Way.{Way}
+
+-- 1 where A holds, 0 where it does not
+pub data Marks (A : Type 0) : ℕ → Type 0 where
+  is : A → Marks A 1
+  none : (A → ⊥) → Marks A 0
+
+-- region r's row: "colour, size, first pixel row and column, 1 for a node else 0". The size is in codels, the first pixel in
+-- pixels
+pub record Row (p : Picture) (map rows : List ℕ) (r : ℕ) : Type 0 where
+  pub first : ℕ
+  pub is-first : First map (codels p) r first
+  pub colour : getD rows (rowCell r colourField) 0 ≡ hueAt p first
+  pub size : getD rows (rowCell r sizeField) 0 ≡ tally r (codels p) map
+  pub row : getD rows (rowCell r rowField) 0 ≡ first / colsOf p * p .codel
+  pub column : getD rows (rowCell r columnField) 0 ≡ first % colsOf p * p .codel
+  pub node : Marks (Node p map r) (getD rows (rowCell r markField) 0)
+
+-- region r's exit in state s: "0 where the row is no node or the attempt is not open", else its number
+pub data Exit (p : Picture) (map : List ℕ) (r s : ℕ) : ℕ → Type 0 where
+  node : {w : Way} → Node p map r → (t : Tried p map r s w) → Exit p map r s (wayNumber p map (hueAt p (t .codel)) s w)
+  no-node : (Node p map r → ⊥) → Exit p map r s 0
+
+-- the whole table of n regions, in the room that it needs; the work slice is left 0
+pub record Builds (p : Picture) (map rows exits work : List ℕ) (n : ℕ) : Type 0 where
+  pub map-long : length map ≡ codels p
+  pub rows-long : length rows ≡ rowsRoom (codels p)
+  pub exits-long : length exits ≡ exitsRoom (codels p)
+  pub regions : IsMap (gridOf p) map n
+  pub row : (r : ℕ) → r < n → Row p map rows r
+  pub exit : (r s : ℕ) → r < n → s < 8 → Exit p map r s (getD exits (exitCell r s) 0)
+  pub rows-rest : (k : ℕ) → rowsRoom n ≤ k → getD rows k 0 ≡ 0
+  pub exits-rest : (k : ℕ) → exitsRoom n ≤ k → getD exits k 0 ≡ 0
+  pub work-zero : work ≡ replicate (codels p) 0

@@ -1,0 +1,9 @@
+-- What the layers above cite, and the laws that belong to no one function.
+pub mod Only
+pub mod SlideLaws
+pub mod Sliding
+pub mod SlideEnds
+pub mod LeavingLaws
+pub mod KeepingLaws
+pub mod Page
+pub mod Examples

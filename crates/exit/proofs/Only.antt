@@ -1,0 +1,132 @@
+-- What the contracts cite is determined: a slide and an attempt have one outcome, a region has one codel to leave by in
+-- each state, and there is one table of these over given cells. Assumes nothing.
+use mathlib.Core.Path.{_≡_, refl, sym, subst, _∙_}
+use mathlib.Core.Bool.{Bool, true, false}
+use mathlib.Core.Logic.{_⊎_, inl, inr}
+use mathlib.Core.List.{List}
+use Prim.Native.Nat.{ℕ, zero, suc, _*_, _/_, _%_, _<_, _≤_}
+use native.Mathlib.Omega.{arith}
+use borrow.Author.Tests.{eqb-true, eqb-false}
+use lib.Dec.{eqb}
+use lib.ListN.{length, getD}
+use lib.Seq.{ext-getD}
+use Rattle.flow.specs.Pointer.{Valid, ofNumber}
+use Rattle.flow.proofs.Order.{valid-number}
+use Rattle.flow.specs.declared.PointerState.{PointerState}
+use Rattle.picture.specs.Picture.{Picture}
+use Rattle.exit.specs.declared.slide.Sight.{Sight}
+use Rattle.exit.specs.declared.slide.Sight.the-variants.{White}
+use Rattle.exit.specs.declared.slide.Slid.{Slid}
+use Rattle.exit.specs.declared.attempt.Way.{Way}
+use Rattle.exit.specs.Slide.{mostTurns, Slide, lost, turn, move, land}
+use Rattle.exit.specs.Attempt as attempts
+use Rattle.exit.specs.Attempt.{Attempt, shut, step, glide}
+use Rattle.exit.specs.Leaving.{Leaves}
+use Rattle.exit.specs.Keeping.{cellOf, AllKept}
+use Rattle.exit.proofs.LeavingLaws.{neither}
+
+-- the turns are all made, and are not
+over : {n : ℕ} {A : Type 0} → mostTurns ≤ n → n < mostTurns → A
+over {n} h k = absurd (none h k)
+  where
+    none : mostTurns ≤ n → n < mostTurns → ⊥
+    none h k = omega arith
+
+-- one look that sees two things
+clash : {A : Type 0} → _≡_ {A = ℕ} 0 1 → A
+clash e = absurd (none e)
+  where
+    none : _≡_ {A = ℕ} 0 1 → ⊥
+    none e = omega arith
+
+-- two white codels that one look sees are one
+same-codel : {p : Picture} {x : Sight} {a b a′ b′ n : ℕ} {s : PointerState} {o : Slid} → x ≡ White a b → x ≡ White a′ b′ → Slide p a′ b′ s n o → Slide p a b s n o
+same-codel {p} {a = a} {b′ = b′} {n = n} {s = s} {o = o} e f d =
+    subst (λ (y : ℕ). Slide p a y s n o) (cc) (subst (λ (x : ℕ). Slide p x b′ s n o) (cc) d)
+
+-- a slide has one outcome
+pub slide-only : {p : Picture} {r c : ℕ} {s : PointerState} {n : ℕ} {o o′ : Slid} → Slide p r c s n o → Slide p r c s n o′ → o ≡ o′
+slide-only (lost h) (lost k) = refl
+slide-only (lost h) (turn k f d′) = over h k
+slide-only (lost h) (move k f d′) = over h k
+slide-only (lost h) (land k f) = over h k
+slide-only (turn h e d) (lost k) = over k h
+slide-only (turn h e d) (turn k f d′) = slide-only d d′
+slide-only (turn h e d) (move k f d′) = clash (cc)
+slide-only (turn h e d) (land k f) = clash (cc)
+slide-only (move h e d) (lost k) = over k h
+slide-only (move h e d) (turn k f d′) = clash (cc)
+slide-only (move h e d) (move k f d′) = slide-only d (same-codel e f d′)
+slide-only (move h e d) (land k f) = clash (cc)
+slide-only (land h e) (lost k) = over k h
+slide-only (land h e) (turn k f d′) = clash (cc)
+slide-only (land h e) (move k f d′) = clash (cc)
+slide-only (land h e) (land k f) = cc
+
+-- an attempt has one outcome
+pub attempt-only : {p : Picture} {r c : ℕ} {s : PointerState} {w w′ : Way} → Attempt p r c s w → Attempt p r c s w′ → w ≡ w′
+attempt-only (shut e) (shut f) = refl
+attempt-only (shut e) (step f) = clash (cc)
+attempt-only (shut e) (glide f d′) = clash (cc)
+attempt-only (shut e) (attempts.lost f d′) = clash (cc)
+attempt-only (step e) (shut f) = clash (cc)
+attempt-only (step e) (step f) = cc
+attempt-only (step e) (glide f d′) = clash (cc)
+attempt-only (step e) (attempts.lost f d′) = clash (cc)
+attempt-only (glide e d) (shut f) = clash (cc)
+attempt-only (glide e d) (step f) = clash (cc)
+attempt-only (glide e d) (glide f d′) = let q = slide-only d (same-codel e f d′) in cc
+attempt-only (glide e d) (attempts.lost f d′) = let q = slide-only d (same-codel e f d′) in clash (cc)
+attempt-only (attempts.lost e d) (shut f) = clash (cc)
+attempt-only (attempts.lost e d) (step f) = clash (cc)
+attempt-only (attempts.lost e d) (glide f d′) = let q = slide-only d (same-codel e f d′) in clash (cc)
+attempt-only (attempts.lost e d) (attempts.lost f d′) = cc
+
+-- a region has one codel to leave by
+pub leaving-only : {map : List ℕ} {rows cols : ℕ} {s : PointerState} {region i j : ℕ} → 0 < cols → length map ≡ rows * cols → Valid s
+    → Leaves map rows cols s region i → Leaves map rows cols s region j → i ≡ j
+leaving-only {map} {rows} {cols} {s} {region} {i} {j} h l v x y =
+    neither rows cols s h v i j (subst (λ (n : ℕ). i < n) l (x .codel)) (subst (λ (n : ℕ). j < n) l (y .codel))
+    (y .unbeaten i (x .codel) (x .own)) (x .unbeaten j (y .codel) (y .own))
+
+-- some codel of the first n is of the region, or none is
+abbrev Met : List ℕ → ℕ → ℕ → Type 0
+Met map region n = (j : ℕ) × (j < n) × (getD map j 0 ≡ region)
+
+met-or : (map : List ℕ) (region n : ℕ) → Met map region n ⊎ (Met map region n → ⊥)
+met-or map region zero = inr (λ t. none t)
+  where
+    none : Met map region 0 → ⊥
+    none t = omega (arith, t .1)
+met-or map region (suc n) = go (eqb (getD map n 0) region) refl (met-or map region n)
+  where
+    go : (b : Bool) → eqb (getD map n 0) region ≡ b → Met map region n ⊎ (Met map region n → ⊥) → Met map region (suc n) ⊎ (Met map region (suc n) → ⊥)
+    go true e m = inl (n, omega arith, eqb-true _ _ e)
+    go false e (inl t) = inl (t .0, omega (arith, t .1), t .2)
+    go false e (inr never) = inr (λ t. never (t .0, earlier t (eqb (t .0) n) refl, t .2))
+      where
+        earlier : (t : Met map region (suc n)) → (b : Bool) → eqb (t .0) n ≡ b → t .0 < n
+        earlier t true f = absurd (eqb-false _ _ e (subst (λ (k : ℕ). getD map k 0 ≡ region) (eqb-true _ _ f) (t .2)))
+        earlier t false f = let d = eqb-false (t .0) n f in omega (arith, t .1)
+
+-- two tables of the codels to leave by over the same cells are equal
+pub only-table : (map before one two : List ℕ) (rows cols : ℕ) → 0 < cols → length map ≡ rows * cols
+    → AllKept map before one rows cols 8 → AllKept map before two rows cols 8 → one ≡ two
+only-table map before one two rows cols h g A B =
+    ext-getD 0 one two (A .same-length ∙ sym (B .same-length)) (λ k l. at k (met-or map (k / 8) (length map)))
+  where
+    cell-is : (k j : ℕ) → getD map j 0 ≡ k / 8 → cellOf map (ofNumber (k % 8)) j ≡ k
+    cell-is k j e = omega arith
+
+    region-is : (k s j : ℕ) → s < 8 → cellOf map (ofNumber s) j ≡ k → getD map j 0 ≡ k / 8
+    region-is k s j l e = omega arith
+
+    at : (k : ℕ) → Met map (k / 8) (length map) ⊎ (Met map (k / 8) (length map) → ⊥) → getD one k 0 ≡ getD two k 0
+    at k (inl t) =
+        subst (λ (c : ℕ). getD one c 0 ≡ getD two c 0) (cell-is k (t .0) (t .2))
+        (leaving-only h g (valid-number (k % 8) (omega arith))
+        (A .leaves (k % 8) (omega arith) (t .0) (t .1)) (B .leaves (k % 8) (omega arith) (t .0) (t .1)))
+    at k (inr never) = A .others k miss ∙ sym (B .others k miss)
+      where
+        miss : (s : ℕ) → s < 8 → (j : ℕ) → j < length map → cellOf map (ofNumber s) j ≡ k → ⊥
+        miss s l j m e = never (j, m, region-is k s j l e)

@@ -1,0 +1,5 @@
+-- The slide, one attempt, the codel to leave by, and the table of these.
+pub mod Slide
+pub mod Attempt
+pub mod Leaving
+pub mod Keeping

@@ -1,0 +1,55 @@
+// One attempt to leave a region by a codel (`possible_exits`, `trace_white`).
+ghost use Rattle.flow.specs.Pointer.{Valid};
+ghost use Rattle.picture.specs.Picture.{pictureOf, Frames, Inside};
+ghost use Rattle.exit.specs.Attempt.{Attempt};
+use crate::slide::Sight;
+use crate::slide::Slid;
+use flow::PointerState;
+use picture::shape::Shape;
+
+// The boundary is shut; it is the coloured codel at (row, col); it is the white codel at (row, col), and the slide from
+// there is lost, or lands. The white codel is kept in both, since its region is found even where the slide is lost.
+pub enum Way {
+    Closed,
+    Step {
+        row: usize,
+        col: usize,
+    },
+    Astray {
+        row: usize,
+        col: usize,
+    },
+    Glide {
+        row: usize,
+        col: usize,
+        to_row: usize,
+        to_col: usize,
+        state: PointerState,
+    },
+}
+
+// From the codel to leave by to the boundary, "one codel further", and from a white boundary on by its slide.
+pub fn attempt_from(colours: &[u8], s: Shape, row: usize, col: usize, from: PointerState) -> Way
+    requires { ⌜ Frames (now colours) s × Inside (pictureOf (now colours) s) row col × Valid from ⌝ }
+    ensures { λ r. ⌜ Attempt (pictureOf (now (colours .entry)) s) row col from r ⌝ }
+{
+    let dp = from.dp;
+    match crate::slide::look(colours, s, row, col, dp) {
+        Sight::Shut => Way::Closed,
+        Sight::Coloured { row: r, col: c } => Way::Step { row: r, col: c },
+        Sight::White { row: r, col: c } => match crate::slide::slide(colours, s, r, c, from) {
+            Slid::Landed {
+                row: a,
+                col: b,
+                state,
+            } => Way::Glide {
+                row: r,
+                col: c,
+                to_row: a,
+                to_col: b,
+                state,
+            },
+            Slid::Lost => Way::Astray { row: r, col: c },
+        },
+    }
+}

@@ -1,0 +1,6 @@
+-- Laws that belong to no one function, and that the layers above cite.
+pub mod Emitting
+pub mod Executing
+pub mod Unique
+pub mod Only
+pub mod Examples

@@ -1,0 +1,124 @@
+-- What an instruction works on, and what each of the seventeen does to it (document 01, "The run"). Assumes nothing.
+use mathlib.Core.Bool.{Bool, true, false, cond}
+use mathlib.Core.List.{List, [], _∷_, _++_}
+use Prim.Native.Nat.{ℕ}
+use lib.Dec.{ltb}
+use lib.ListN.{length, getD}
+use lib.IntN.{ℤ, pos}
+use Rattle.flow.specs.declared.PointerState.{PointerState}
+use Rattle.flow.specs.Pointer.{rotated, switched}
+use Rattle.text.specs.declared.number.Number.{Number}
+use Rattle.text.specs.declared.input.Taken.{Taken}
+use Rattle.text.specs.declared.input.Taken.the-variants as Line
+use Rattle.text.specs.Input.{charOf, intOf}
+use Rattle.text.specs.Reading.{takeOf}
+use Rattle.stack.specs.declared.Pairing.the-variants.{Add, Sub, Mul, Div, Mod, Gt}
+use Rattle.stack.specs.Instr as Instr
+use Rattle.machine.specs.declared.Op.{Op}
+use Rattle.machine.specs.declared.Op.the-variants.{Nothing, Push, Pop, Pair, Not, Ptr, Swi, Dup, Roll, CharIn, CharOut, IntIn, IntOut}
+use Rattle.machine.specs.declared.Stop.{Stop}
+use Rattle.machine.specs.declared.Stop.the-variants.{Completed, MaxSteps, NeedsInput, StackFull, OutputFull, BadInput}
+use Rattle.machine.specs.Output.{Emit, ofTop, charOut, intOut}
+
+-- "Instructions are 1 to 17 in the order of `Instruction`, Push 1 to IntOut 17; 0 is none"
+abbrev pub ops : List Op
+ops =
+    Nothing ∷ Push ∷ Pop ∷ Pair Add ∷ Pair Sub ∷ Pair Mul ∷ Pair Div ∷ Pair Mod ∷ Not ∷ Pair Gt ∷ Ptr ∷ Swi ∷ Dup ∷ Roll ∷ CharIn ∷ CharOut ∷ IntIn ∷ IntOut
+    ∷ []
+
+abbrev pub numbered : ℕ → Op
+numbered n = getD ops n Nothing
+
+-- the status of a run that stops: "1 Completed", "2 MaxSteps", "3 NeedsInput", "4 StackFull", "5 OutputFull", "6 BadInput"
+unfoldable pub statusOf : Stop → ℕ
+statusOf Completed = 1
+statusOf MaxSteps = 2
+statusOf NeedsInput = 3
+statusOf StackFull = 4
+statusOf OutputFull = 5
+statusOf BadInput = 6
+
+-- what an instruction works on: the stack, top first; the outputs, in order; the input bytes used; whether an input
+-- instruction was met in abstract mode
+pub record Store : Type 0 where
+  pub pointers : PointerState
+  pub stack : List ℤ
+  pub outs : List Emit
+  pub used : ℕ
+  pub awaiting : Bool
+
+abbrev pub withPointers : PointerState → Store → Store
+withPointers p m = record { pointers = p; stack = m .stack; outs = m .outs; used = m .used; awaiting = m .awaiting }
+
+abbrev pub withStack : List ℤ → Store → Store
+withStack s m = record { pointers = m .pointers; stack = s; outs = m .outs; used = m .used; awaiting = m .awaiting }
+
+abbrev pub withOuts : List Emit → Store → Store
+withOuts es m = record { pointers = m .pointers; stack = m .stack; outs = es; used = m .used; awaiting = m .awaiting }
+
+abbrev pub withUsed : ℕ → Store → Store
+withUsed n m = record { pointers = m .pointers; stack = m .stack; outs = m .outs; used = n; awaiting = m .awaiting }
+
+abbrev pub waiting : Store → Store
+waiting m = record { pointers = m .pointers; stack = m .stack; outs = m .outs; used = m .used; awaiting = true }
+
+-- what an instruction comes to; `bad-input` where "the line it would read is not UTF-8"
+pub data Effect : Type 0 where
+  does : Store → Effect
+  bad-input : Effect
+
+-- an instruction on the stack alone
+abbrev pub onStack : (List ℤ → List ℤ) → Store → Effect
+onStack f m = does (withStack (f (m .stack)) m)
+
+-- Ptr, Swi: the pointers turn by the top, which goes
+unfoldable pub byTop : (PointerState → ℤ → PointerState) → List ℤ → PointerState → PointerState
+byTop f [] p = p
+byTop f (a ∷ s) p = f p a
+
+unfoldable pub turn : (PointerState → ℤ → PointerState) → Store → Effect
+turn f m = does (withStack (Instr.pop (m .stack)) (withPointers (byTop f (m .stack) (m .pointers)) m))
+
+-- CharOut, IntOut: what the top gives is emitted, and the top goes
+unfoldable pub write : (ℤ → List Emit) → Store → Effect
+write f m = does (withStack (Instr.pop (m .stack)) (withOuts (m .outs ++ ofTop f (m .stack)) m))
+
+-- CharIn, IntIn: "a line either gives a number or the step is skipped, counted, the line gone"
+unfoldable pub take : Taken → Store → Effect
+take (Line.Push v n) m = does (withUsed n (withStack (v ∷ m .stack) m))
+take (Line.Skip n) m = does (withUsed n m)
+take Line.BadInput m = bad-input
+
+-- "In abstract mode an input instruction reads and pushes nothing. Otherwise it consumes a line"
+unfoldable pub read : Bool → (List ℕ → Number) → List ℕ → Store → Effect
+read true f input m = does (waiting m)
+read false f input m = take (takeOf f input (m .used)) m
+
+-- one instruction; size is "the size of the block just left"
+unfoldable pub exec : Bool → List ℕ → ℕ → Op → Store → Effect
+exec mode input size Nothing m = does m
+exec mode input size Push m = onStack (Instr.push (pos size)) m
+exec mode input size Pop m = onStack Instr.pop m
+exec mode input size (Pair p) m = onStack (Instr.pair p) m
+exec mode input size Not m = onStack Instr.not m
+exec mode input size Ptr m = turn rotated m
+exec mode input size Swi m = turn switched m
+exec mode input size Dup m = onStack Instr.dup m
+exec mode input size Roll m = onStack Instr.roll m
+exec mode input size CharIn m = read mode charOf input m
+exec mode input size CharOut m = write charOut m
+exec mode input size IntIn m = read mode intOf input m
+exec mode input size IntOut m = write intOut m
+
+-- what a step comes to: it is kept, or it is not taken and the run stops
+pub data Out : Type 0 where
+  keeps : Store → Out
+  stops : Stop → Out
+
+-- "A step that can't be kept isn't taken": "6 BadInput (the line it would read is not UTF-8), 4 StackFull (the depth after
+-- it would exceed the stack's room), 5 OutputFull (it would emit and no output cell is left), in that order"
+unfoldable pub fitting : ℕ → ℕ → Effect → Out
+fitting stackRoom outRoom bad-input = stops BadInput
+fitting stackRoom outRoom (does m) =
+    cond (ltb stackRoom (length (m .stack))) (stops StackFull)
+    (cond (ltb outRoom (length (m .outs))) (stops OutputFull) (keeps m))

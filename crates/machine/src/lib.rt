@@ -1,0 +1,248 @@
+// One instruction over the lent stack and outputs.
+pub mod output;
+
+use crate::output::Wrote;
+use flow::PointerState;
+use stack::Grown;
+use stack::Pairing;
+use text::input::Taken;
+ghost use mathlib.Core.Path.{_≡_};
+ghost use Rattle.flow.specs.Pointer.{Valid, rotated, switched};
+ghost use Rattle.text.specs.Input.{charOf, intOf};
+ghost use Rattle.stack.specs.Stack.{Lies};
+ghost use Rattle.machine.specs.Machine.{exec, take, turn, read, numbered};
+ghost use Rattle.machine.specs.Held.{lent, Stands, Execs, StackExecs, atDepth, atOutputs, atUsed, atPointers, atWait, grownOf, wroteOf};
+
+// The instructions; Nothing is what a slide's or a black region's exit carries.
+pub enum Op {
+    Nothing,
+    Push,
+    Pop,
+    Pair(Pairing),
+    Not,
+    Ptr,
+    Swi,
+    Dup,
+    Roll,
+    CharIn,
+    CharOut,
+    IntIn,
+    IntOut,
+}
+
+// Why a run stops.
+pub enum Stop {
+    Completed,
+    MaxSteps,
+    NeedsInput,
+    StackFull,
+    OutputFull,
+    BadInput,
+}
+
+// What an instruction works on, beside the lent slices; awaiting: an input instruction was met in abstract mode.
+pub struct Core {
+    pub pointers: PointerState,
+    pub depth: usize,
+    pub outputs: usize,
+    pub used: usize,
+    pub awaiting: bool,
+}
+
+// What an instruction leaves, or why it can't be kept.
+pub enum Done {
+    Kept(Core),
+    Stops(Stop),
+}
+
+// One field set, so that an instruction names only what it changes.
+impl Core {
+    fn at_depth(mut self, depth: usize) -> Core
+        ensures { λ r. ⌜ r ≡ atDepth depth self ⌝ }
+    {
+        self.depth = depth;
+        self
+    }
+
+    fn at_outputs(mut self, outputs: usize) -> Core
+        ensures { λ r. ⌜ r ≡ atOutputs outputs self ⌝ }
+    {
+        self.outputs = outputs;
+        self
+    }
+
+    fn at_used(mut self, used: usize) -> Core
+        ensures { λ r. ⌜ r ≡ atUsed used self ⌝ }
+    {
+        self.used = used;
+        self
+    }
+
+    pub fn at_pointers(mut self, pointers: PointerState) -> Core
+        ensures { λ r. ⌜ r ≡ atPointers pointers self ⌝ }
+    {
+        self.pointers = pointers;
+        self
+    }
+
+    fn at_wait(mut self) -> Core
+        ensures { λ r. ⌜ r ≡ atWait self ⌝ }
+    {
+        self.awaiting = true;
+        self
+    }
+}
+
+// The instruction with the number n: "1 to 17 in the order of `Instruction`"; every other number is none.
+pub fn numbered(n: u32) -> Op
+    ensures { λ r. ⌜ r ≡ numbered n ⌝ }
+{
+    match n {
+        1 => Op::Push,
+        2 => Op::Pop,
+        3 => Op::Pair(Pairing::Add),
+        4 => Op::Pair(Pairing::Sub),
+        5 => Op::Pair(Pairing::Mul),
+        6 => Op::Pair(Pairing::Div),
+        7 => Op::Pair(Pairing::Mod),
+        8 => Op::Not,
+        9 => Op::Pair(Pairing::Gt),
+        10 => Op::Ptr,
+        11 => Op::Swi,
+        12 => Op::Dup,
+        13 => Op::Roll,
+        14 => Op::CharIn,
+        15 => Op::CharOut,
+        16 => Op::IntIn,
+        17 => Op::IntOut,
+        _ => Op::Nothing,
+    }
+}
+
+// The answer of an instruction that may need a cell more.
+fn after_growth(at: Core, grown: Grown) -> Done
+    ensures { λ r. ⌜ r ≡ grownOf at grown ⌝ }
+{
+    match grown {
+        Grown::To(depth) => Done::Kept(at.at_depth(depth)),
+        Grown::Full => Done::Stops(Stop::StackFull),
+    }
+}
+
+// The answer of an instruction that may emit.
+fn after_output(at: Core, wrote: Wrote) -> Done
+    ensures { λ r. ⌜ r ≡ wroteOf at wrote ⌝ }
+{
+    match wrote {
+        Wrote::Kept(depth, outputs) => Done::Kept(at.at_depth(depth).at_outputs(outputs)),
+        Wrote::NoRoom => Done::Stops(Stop::OutputFull),
+    }
+}
+
+// Ptr: dp turned by the top, which is gone.
+fn turn_pointer(stack: &mut [i64], at: Core) -> Done
+    requires { ⌜ Lies (now stack) (at .depth) ⌝ }
+    requires { ⌜ Valid (at .pointers) ⌝ }
+    ensures { λ r. ⌜ StackExecs (turn rotated) (now (stack .entry)) at (now (stack .exit)) r ⌝ }
+{
+    let depth = at.depth;
+    if depth == 0 {
+        return Done::Kept(at);
+    }
+    let n = stack[depth - 1];
+    let d = stack::pop(stack, depth);
+    let p = at.pointers;
+    Done::Kept(at.at_depth(d).at_pointers(p.rotate(n)))
+}
+
+// Swi: cc flipped by the top, which is gone.
+fn flip_chooser(stack: &mut [i64], at: Core) -> Done
+    requires { ⌜ Lies (now stack) (at .depth) ⌝ }
+    requires { ⌜ Valid (at .pointers) ⌝ }
+    ensures { λ r. ⌜ StackExecs (turn switched) (now (stack .entry)) at (now (stack .exit)) r ⌝ }
+{
+    let depth = at.depth;
+    if depth == 0 {
+        return Done::Kept(at);
+    }
+    let n = stack[depth - 1];
+    let d = stack::pop(stack, depth);
+    let p = at.pointers;
+    Done::Kept(at.at_depth(d).at_pointers(p.switch(n)))
+}
+
+// What a line gives: a value to push, a skipped step, or bytes that are not UTF-8. These come first: BadInput is
+// answered before StackFull.
+fn take(stack: &mut [i64], at: Core, taken: Taken) -> Done
+    requires { ⌜ Lies (now stack) (at .depth) ⌝ }
+    requires { ⌜ Valid (at .pointers) ⌝ }
+    ensures { λ r. ⌜ StackExecs (take taken) (now (stack .entry)) at (now (stack .exit)) r ⌝ }
+{
+    let depth = at.depth;
+    match taken {
+        Taken::Push { value, next } => {
+            after_growth(at.at_used(next), stack::grow(stack, depth, value))
+        }
+        Taken::Skip { next } => Done::Kept(at.at_used(next)),
+        Taken::BadInput => Done::Stops(Stop::BadInput),
+    }
+}
+
+// CharIn: the first character of a line; in abstract mode nothing is read, and the run is to stop.
+fn char_in(abstract_mode: bool, input: &[u8], stack: &mut [i64], at: Core) -> Done
+    requires { ⌜ Lies (now stack) (at .depth) ⌝ }
+    requires { ⌜ Valid (at .pointers) ⌝ }
+    ensures { λ r. ⌜ StackExecs (read «abstract_mode» charOf (now (input .entry))) (now (stack .entry)) at (now (stack .exit)) r ⌝ }
+{
+    if abstract_mode {
+        return Done::Kept(at.at_wait());
+    }
+    let used = at.used;
+    take(stack, at, text::input::char_in(input, used))
+}
+
+// IntIn: the number that a line is; in abstract mode nothing is read, and the run is to stop.
+fn int_in(abstract_mode: bool, input: &[u8], stack: &mut [i64], at: Core) -> Done
+    requires { ⌜ Lies (now stack) (at .depth) ⌝ }
+    requires { ⌜ Valid (at .pointers) ⌝ }
+    ensures { λ r. ⌜ StackExecs (read «abstract_mode» intOf (now (input .entry))) (now (stack .entry)) at (now (stack .exit)) r ⌝ }
+{
+    if abstract_mode {
+        return Done::Kept(at.at_wait());
+    }
+    let used = at.used;
+    take(stack, at, text::input::int_in(input, used))
+}
+
+// One instruction, with the size of the block just left.
+pub fn exec(
+    op: Op,
+    size: u32,
+    abstract_mode: bool,
+    input: &[u8],
+    stack: &mut [i64],
+    kinds: &mut [u8],
+    values: &mut [i64],
+    at: Core,
+) -> Done
+    requires { ⌜ Stands (lent (now stack) (now kinds) (now values)) at ⌝ }
+    ensures { λ r. ⌜ Execs (exec «abstract_mode» (now (input .entry)) size op) (lent (now (stack .entry)) (now (kinds .entry)) (now (values .entry))) at (lent (now (stack .exit)) (now (kinds .exit)) (now (values .exit))) r ⌝ }
+{
+    let d = at.depth;
+    let n = at.outputs;
+    match op {
+        Op::Nothing => Done::Kept(at),
+        Op::Push => after_growth(at, stack::grow(stack, d, size as i64)),
+        Op::Pop => Done::Kept(at.at_depth(stack::pop(stack, d))),
+        Op::Pair(pairing) => Done::Kept(at.at_depth(stack::pair(stack, d, pairing))),
+        Op::Not => Done::Kept(at.at_depth(stack::not(stack, d))),
+        Op::Ptr => turn_pointer(stack, at),
+        Op::Swi => flip_chooser(stack, at),
+        Op::Dup => after_growth(at, stack::double(stack, d)),
+        Op::Roll => Done::Kept(at.at_depth(stack::roll(stack, d))),
+        Op::CharIn => char_in(abstract_mode, input, stack, at),
+        Op::CharOut => after_output(at, output::char_out(stack, d, kinds, values, n)),
+        Op::IntIn => int_in(abstract_mode, input, stack, at),
+        Op::IntOut => after_output(at, output::int_out(stack, d, kinds, values, n)),
+    }
+}

@@ -1,0 +1,50 @@
+-- Two outcomes that a call from C may have for one input are one, where what the call makes is. Assumes nothing.
+use mathlib.Core.Path.{_≡_, ap, sym, _∙_}
+use mathlib.Core.List.{List}
+use Prim.Native.Nat.{ℕ, _<_, _≤_}
+use native.Mathlib.Omega.{arith}
+use Rattle.base.specs.Lent.{lent}
+use Rattle.base.specs.Numbers.{Numbers}
+use Rattle.piet_c.specs.Exported.{numberOf, valuesOf, Exported, short, made}
+use Rattle.piet_c.specs.Calls.{Classifies, Labels, Builds, Slices}
+use Rattle.picture.specs.Picture.{Picture}
+use Rattle.colour.proofs.Only.{classify-only, label-only}
+use Rattle.colour.specs.Classify as classifying
+use Rattle.colour.specs.Label as labelling
+use Rattle.cfg.specs.Build as building
+use Rattle.cfg.proofs.Refusing.{outcome-only}
+
+-- what a call makes is determined
+abbrev pub Settles : {S : Type 0} → (Numbers → S → Type 0) → Type 0
+Settles {S} Makes = (n n′ : Numbers) (s s′ : S) → Makes n s → Makes n′ s′ → (n ≡ n′) × (s ≡ s′)
+
+over : {A : Type 0} {k m : ℕ} → k < m → m ≤ k → A
+over {k = k} {m = m} h l = absurd (no h l)
+  where
+    no : k < m → m ≤ k → ⊥
+    no h l = omega arith
+
+pub exported-only : {S : Type 0} {Makes : Numbers → S → Type 0} {need : ℕ} {before after after′ : S} {answer a a′ : List ℕ} {r r′ : ℕ} → Settles Makes
+    → Exported need Makes before answer r after a → Exported need Makes before answer r′ after′ a′ → (r ≡ r′) × (after ≡ after′) × (a ≡ a′)
+exported-only d (short h e f g) (short h′ e′ f′ g′) = (e ∙ sym e′, f ∙ sym f′, g ∙ sym g′)
+exported-only d (short h e f g) (made n h′ m e′ g′) = over h h′
+exported-only d (made n h m e g) (short h′ e′ f′ g′) = over h′ h
+exported-only {answer = answer} d (made n h m e g) (made n′ h′ m′ e′ g′) =
+    let s = d n n′ _ _ m m′ in
+    (e ∙ ap numberOf (s .0) ∙ sym e′, s .1, g ∙ ap (λ (x : Numbers). lent (valuesOf x) answer) (s .0) ∙ sym g′)
+
+pub classifies : (pixels : List ℕ) (height width setting : ℕ) (colours : List ℕ) → Settles (Classifies pixels height width setting colours)
+classifies pixels height width setting colours n n′ s s′ (r, e, o) (r′, e′, o′) =
+    let d = classify-only o o′ in (sym e ∙ ap classifying.numbered (d .0) ∙ e′, d .1)
+
+pub labels : (colour row column : ℕ) (out : List ℕ) → Settles (Labels colour row column out)
+labels colour row column out n n′ s s′ (r, e, o) (r′, e′, o′) =
+    let d = label-only o o′ in (sym e ∙ ap labelling.numbered (d .0) ∙ e′, d .1)
+
+same-slices : {s s′ : Slices} → s .map ≡ s′ .map → s .rows ≡ s′ .rows → s .exits ≡ s′ .exits → s .work ≡ s′ .work → s ≡ s′
+same-slices a b c d = λ i. record { map = a i; rows = b i; exits = c i; work = d i }
+
+pub builds : (p : Picture) (s : Slices) → Settles (Builds p s)
+builds p s n n′ t t′ (r, e, o) (r′, e′, o′) =
+    let d = outcome-only o o′ in
+    (sym e ∙ ap building.numbered (d .answer) ∙ e′, same-slices (d .map-same) (d .rows-same) (d .exits-same) (d .work-same))

@@ -1,0 +1,27 @@
+-- Writing the values of an answer. Assumes nothing.
+use mathlib.Core.Path.{_≡_, refl, ap, _∙_}
+use mathlib.Core.List.{List, [], _∷_}
+use Prim.Native.Nat.{ℕ, _≤_}
+use native.Mathlib.Omega.{arith}
+use lib.ListN.{length, set}
+use Rattle.base.specs.Lent.{lent}
+use Rattle.base.specs.Numbers.{Numbers, numbers}
+use Rattle.piet_c.specs.Exported.{numberOf, valuesOf, Exported, made}
+
+pub one-put : (l : List ℕ) (a : ℕ) → 1 ≤ length l → set l 0 a ≡ lent (a ∷ []) l
+unfolding lent
+one-put [] a h = absurd (omega arith)
+one-put (x ∷ l) a h = refl
+
+pub two-put : (l : List ℕ) (a b : ℕ) → 2 ≤ length l → set (set l 0 a) 1 b ≡ lent (a ∷ b ∷ []) l
+unfolding lent
+two-put [] a b h = absurd (omega arith)
+two-put (x ∷ []) a b h = absurd (omega arith)
+two-put (x ∷ y ∷ l) a b h = refl
+
+-- a call whose numbers were told
+pub told : {S : Type 0} {Makes : Numbers → S → Type 0} {need : ℕ} {before after : S} {answer answer′ : List ℕ} (number : ℕ) (values : List ℕ) {n : Numbers}
+    → need ≤ length answer → Makes n after → numbers number values ≡ n → answer′ ≡ lent values answer
+    → Exported need Makes before answer number after answer′
+told {answer = answer} number values {n} h m e w =
+    made n h m (ap numberOf e) (w ∙ ap (λ (x : Numbers). lent (valuesOf x) answer) e)

@@ -1,0 +1,34 @@
+-- What each call makes: the layers' own outcomes, by document 01's numbers. Assumes nothing.
+use mathlib.Core.Path.{_≡_}
+use mathlib.Core.List.{List}
+use Prim.Native.Nat.{ℕ}
+use Rattle.base.specs.Numbers.{Numbers}
+use Rattle.picture.specs.Picture.{Picture}
+use Rattle.colour.specs.declared.classify.Classified.{Classified}
+use Rattle.colour.specs.Classify as classifying
+use Rattle.colour.specs.declared.label.Labelled.{Labelled}
+use Rattle.colour.specs.Label as labelling
+use Rattle.cfg.specs.declared.building.Built.{Built}
+use Rattle.cfg.specs.Build as building
+
+abbrev pub Classifies : List ℕ → ℕ → ℕ → ℕ → List ℕ → Numbers → List ℕ → Type 0
+Classifies pixels height width setting colours n colours′ =
+    (r : Classified) × (classifying.numbered r ≡ n) × classifying.Outcome pixels height width setting colours r colours′
+
+abbrev pub Labels : ℕ → ℕ → ℕ → List ℕ → Numbers → List ℕ → Type 0
+Labels colour row column out n out′ = (r : Labelled) × (labelling.numbered r ≡ n) × labelling.Outcome colour row column out r out′
+
+-- the four slices that building lends
+pub record Slices : Type 0 where
+  pub map : List ℕ
+  pub rows : List ℕ
+  pub exits : List ℕ
+  pub work : List ℕ
+
+abbrev pub slices : List ℕ → List ℕ → List ℕ → List ℕ → Slices
+slices map rows exits work = record { map = map; rows = rows; exits = exits; work = work }
+
+abbrev pub Builds : Picture → Slices → Numbers → Slices → Type 0
+Builds p s n s′ =
+    (r : Built) × (building.numbered r ≡ n)
+    × building.Outcome p (s .map) (s .rows) (s .exits) (s .work) r (s′ .map) (s′ .rows) (s′ .exits) (s′ .work)

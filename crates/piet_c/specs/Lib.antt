@@ -1,0 +1,3 @@
+-- What a call from C promises.
+pub mod Exported
+pub mod Calls

@@ -1,0 +1,7 @@
+-- Laws that belong to no one function, and that the layers above cite.
+pub mod Cells
+pub mod Mirror
+pub mod Turning
+pub mod Rolling
+pub mod Unique
+pub mod Only

@@ -1,0 +1,73 @@
+-- What each instruction does to a stack, written top first (document 01, "The run"). Assumes nothing.
+use mathlib.Core.Bool.{Bool, cond}
+use mathlib.Core.List.{List, [], _∷_, _++_, reverse}
+use Prim.Native.Nat.{ℕ, _-_}
+use lib.Dec.{ltb, eqb}
+use lib.ListN.{length, take, drop}
+use lib.IntN.{ℤ, pos, negsuc, _+ℤ_, _-ℤ_, _*ℤ_}
+use lib.Signed.{ltZ}
+use Rattle.word.specs.Word.{residue, wrap, isZero, quotient, remainder}
+use Rattle.stack.specs.declared.Pairing.{Pairing}
+use Rattle.stack.specs.declared.Pairing.the-variants.{Add, Sub, Mul, Div, Mod, Gt}
+
+abbrev pub push : ℤ → List ℤ → List ℤ
+push v s = v ∷ s
+
+-- "Too few values: nothing is popped"
+unfoldable pub pop : List ℤ → List ℤ
+pop [] = []
+pop (a ∷ s) = s
+
+-- "Top a, second b": both go, and what f gives of b and a comes. "Too few values: nothing is popped"
+unfoldable pub binary : (ℤ → ℤ → List ℤ) → List ℤ → List ℤ
+binary f [] = []
+binary f (a ∷ []) = a ∷ []
+binary f (a ∷ (b ∷ s)) = f b a ++ s
+
+abbrev pub bit : Bool → ℤ
+bit t = cond t (pos 1) (pos 0)
+
+-- "Add, Sub (b - a), Mul wrap as the release build does. Div rounds toward zero and Mod is never negative: b modulo |a|.
+-- Gt is b > a." "Div or Mod by 0, Mod by -2^63 ..: both values are gone"
+unfoldable pub combined : Pairing → ℤ → ℤ → List ℤ
+combined Add b a = wrap (b +ℤ a) ∷ []
+combined Sub b a = wrap (b -ℤ a) ∷ []
+combined Mul b a = wrap (b *ℤ a) ∷ []
+combined Div b a = quotient b a
+combined Mod b a = remainder b a
+combined Gt b a = bit (ltZ a b) ∷ []
+
+abbrev pub pair : Pairing → List ℤ → List ℤ
+pair op = binary (combined op)
+
+-- "Not: 0 to 1, all else to 0"
+unfoldable pub not : List ℤ → List ℤ
+not [] = []
+not (a ∷ s) = bit (isZero a) ∷ s
+
+unfoldable pub dup : List ℤ → List ℤ
+dup [] = []
+dup (a ∷ s) = a ∷ a ∷ s
+
+-- the top n values turned by k places: the k uppermost go below the others, "positive a buries the top"
+unfoldable pub turn : ℕ → ℕ → List ℤ → List ℤ
+turn n k s = drop k (take n s) ++ take k s ++ drop n s
+
+-- how many of d values turn: n, or none for "n negative or above the remaining depth"
+unfoldable pub places : ℤ → ℕ → ℕ
+places (pos n) d = cond (ltb d n) 0 n
+places (negsuc n) d = 0
+
+-- "n = 0 drops both; a = -2^63 rolls by its residue", as every a does
+unfoldable pub rolled : ℕ → ℤ → List ℤ → List ℤ
+rolled m a s = cond (eqb m 0) s (turn m (residue a m) s)
+
+-- "Roll: top a, depth n"
+unfoldable pub roll : List ℤ → List ℤ
+roll [] = []
+roll (a ∷ []) = a ∷ []
+roll (a ∷ (n ∷ s)) = rolled (places n (length s)) a s
+
+-- the cells from lo up to hi in the opposite order
+unfoldable pub mirrored : ℕ → ℕ → List ℤ → List ℤ
+mirrored lo hi c = take lo c ++ reverse (take (hi - lo) (drop lo c)) ++ drop hi c
