@@ -82,7 +82,7 @@ module _ {p : Picture} {map : List ℕ} {n : ℕ} (S : Sound p) (M : IsMap (grid
       })
   attempt-leads from s h i v f (lost e d) = inl refl
 
-  exit-cases : {r s x : ℕ} → length map ≡ codels p → s < 8 → Exit p map r s x → (x ≡ 0) ⊎ Leads p map n x
+  pub exit-cases : {r s x : ℕ} → length map ≡ codels p → s < 8 → Exit p map r s x → (x ≡ 0) ⊎ Leads p map n x
   exit-cases {s = s} long h (node N t) =
       attempt-leads _ s h (inside-of S (t .codel) (omega (arith, t .leaves .codel))) (valid-number s h) (λ q a. next (N .found) h t a) (t .way)
   exit-cases long h (no-node N) = inl refl

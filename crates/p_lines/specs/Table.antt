@@ -6,6 +6,8 @@ use lib.IntN.{ℤ, pos, negsuc, natAbs, _+ℤ_}
 use Rattle.word.specs.Word.{wrap, quotient, remainder}
 use Rattle.colour.specs.Decode.{decodeOf}
 use Rattle.flow.specs.Pointer.{numberOf, ofNumber, attemptOf}
+use Rattle.stack.specs.Instr.{roll}
+use Rattle.machine.specs.Output.{Emit, charOut}
 
 pub data Question : Type 0 where
   -- the eight attempts from a state, by their numbers
@@ -16,6 +18,10 @@ pub data Question : Type 0 where
   modOf : ℤ → ℤ → Question
   divOf : ℤ → ℤ → Question
   addOf : ℤ → ℤ → Question
+  -- a stack before Roll, top first
+  rollOf : List ℤ → Question
+  -- the top before CharOut
+  charOutOf : ℤ → Question
 
 -- what the definitions say
 abbrev pub answer : Question → List ℤ
@@ -24,6 +30,8 @@ answer (decodes from to) = pos (decodeOf from to) ∷ []
 answer (modOf b a) = remainder b a
 answer (divOf b a) = quotient b a
 answer (addOf b a) = wrap (b +ℤ a) ∷ []
+answer (rollOf s) = roll s
+answer (charOutOf v) = map (λ (e : Emit). e .value) (charOut v)
 
 pub record PLine : Type 0 where
   pub asks : Question
@@ -49,4 +57,8 @@ pLines =
     ∷ line (modOf (negsuc 6) (pos 3)) (these (2 ∷ []))
     ∷ line (divOf (negsuc 6) (pos 2)) (negsuc 2 ∷ [])
     ∷ line (addOf (pos 9223372036854775807) (pos 1)) (negsuc 9223372036854775807 ∷ [])
+    ∷ line (rollOf (these (1 ∷ 2 ∷ 6 ∷ 5 ∷ []))) (these (5 ∷ 6 ∷ []))
+    ∷ line (rollOf (negsuc 0 ∷ these (3 ∷ 6 ∷ 5 ∷ 4 ∷ []))) (these (4 ∷ 6 ∷ 5 ∷ []))
+    ∷ line (charOutOf (pos 4294967361)) (these (65 ∷ []))
+    ∷ line (charOutOf (pos 55296)) []
     ∷ []

@@ -1,12 +1,17 @@
 -- Two outcomes that a call from C may have for one input are one, where what the call makes is. Assumes nothing.
-use mathlib.Core.Path.{_≡_, ap, sym, _∙_}
+use mathlib.Core.Bool.{Bool}
+use mathlib.Core.Path.{_≡_, refl, ap, sym, _∙_}
 use mathlib.Core.List.{List}
 use Prim.Native.Nat.{ℕ, _<_, _≤_}
 use native.Mathlib.Omega.{arith}
 use Rattle.base.specs.Lent.{lent}
 use Rattle.base.specs.Numbers.{Numbers}
+use Rattle.machine.specs.Held.{Lent}
+use Rattle.interpreter.specs.Outcome as running
+use Rattle.interpreter.specs.Forever as always
+use Rattle.interpreter.proofs.Only.{run-only}
 use Rattle.piet_c.specs.Exported.{numberOf, valuesOf, Exported, short, made}
-use Rattle.piet_c.specs.Calls.{Classifies, Labels, Builds, Slices}
+use Rattle.piet_c.specs.Calls.{Classifies, Labels, Builds, Slices, Runs, Tells}
 use Rattle.picture.specs.Picture.{Picture}
 use Rattle.colour.proofs.Only.{classify-only, label-only}
 use Rattle.colour.specs.Classify as classifying
@@ -48,3 +53,14 @@ pub builds : (p : Picture) (s : Slices) → Settles (Builds p s)
 builds p s n n′ t t′ (r, e, o) (r′, e′, o′) =
     let d = outcome-only o o′ in
     (sym e ∙ ap building.numbered (d .answer) ∙ e′, same-slices (d .map-same) (d .rows-same) (d .exits-same) (d .work-same))
+
+same-lent : {l l′ : Lent} → l .stack ≡ l′ .stack → l .kinds ≡ l′ .kinds → l .values ≡ l′ .values → l ≡ l′
+same-lent a b c = λ i. record { stack = a i; kinds = b i; values = c i }
+
+pub runs : (k : ℕ) (rows exits : List ℕ) (limit : ℕ) (mode : Bool) (input : List ℕ) (l : Lent) → Settles (Runs k rows exits limit mode input l)
+runs k rows exits limit mode input l n n′ s s′ (r, e, o) (r′, e′, o′) =
+    let d = run-only k rows exits limit mode input l o o′ in
+    (sym e ∙ ap running.numbered (d .0) ∙ e′, same-lent (d .1) (d .2) (d .3))
+
+pub tells : (k : ℕ) (rows exits : List ℕ) → Settles (Tells k rows exits)
+tells k rows exits n n′ s s′ (r, e, o) (r′, e′, o′) = (sym e ∙ ap always.numbered (o ∙ sym o′) ∙ e′, refl)

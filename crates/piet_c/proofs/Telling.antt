@@ -19,6 +19,18 @@ two-put [] a b h = absurd (omega arith)
 two-put (x ∷ []) a b h = absurd (omega arith)
 two-put (x ∷ y ∷ l) a b h = refl
 
+pub eight-put : (l : List ℕ) (a b c d e f g h : ℕ) → 8 ≤ length l → set (set (set (set (set (set (set (set l 0 a) 1 b) 2 c) 3 d) 4 e) 5 f) 6 g) 7 h ≡ lent (a ∷ b ∷ c ∷ d ∷ e ∷ f ∷ g ∷ h ∷ []) l
+unfolding lent
+eight-put [] a b c d e f g h k = absurd (omega arith)
+eight-put (x0 ∷ []) a b c d e f g h k = absurd (omega arith)
+eight-put (x0 ∷ x1 ∷ []) a b c d e f g h k = absurd (omega arith)
+eight-put (x0 ∷ x1 ∷ x2 ∷ []) a b c d e f g h k = absurd (omega arith)
+eight-put (x0 ∷ x1 ∷ x2 ∷ x3 ∷ []) a b c d e f g h k = absurd (omega arith)
+eight-put (x0 ∷ x1 ∷ x2 ∷ x3 ∷ x4 ∷ []) a b c d e f g h k = absurd (omega arith)
+eight-put (x0 ∷ x1 ∷ x2 ∷ x3 ∷ x4 ∷ x5 ∷ []) a b c d e f g h k = absurd (omega arith)
+eight-put (x0 ∷ x1 ∷ x2 ∷ x3 ∷ x4 ∷ x5 ∷ x6 ∷ []) a b c d e f g h k = absurd (omega arith)
+eight-put (x0 ∷ x1 ∷ x2 ∷ x3 ∷ x4 ∷ x5 ∷ x6 ∷ x7 ∷ l) a b c d e f g h k = refl
+
 -- a call whose numbers were told
 pub told : {S : Type 0} {Makes : Numbers → S → Type 0} {need : ℕ} {before after : S} {answer answer′ : List ℕ} (number : ℕ) (values : List ℕ) {n : Numbers}
     → need ≤ length answer → Makes n after → numbers number values ≡ n → answer′ ≡ lent values answer

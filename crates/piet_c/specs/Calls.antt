@@ -10,6 +10,12 @@ use Rattle.colour.specs.declared.label.Labelled.{Labelled}
 use Rattle.colour.specs.Label as labelling
 use Rattle.cfg.specs.declared.building.Built.{Built}
 use Rattle.cfg.specs.Build as building
+use mathlib.Core.Bool.{Bool}
+use Rattle.machine.specs.Held.{Lent}
+use Rattle.interpreter.specs.declared.Ran.{Ran}
+use Rattle.interpreter.specs.declared.Forever.{Forever}
+use Rattle.interpreter.specs.Outcome as running
+use Rattle.interpreter.specs.Forever as always
 
 abbrev pub Classifies : List ℕ → ℕ → ℕ → ℕ → List ℕ → Numbers → List ℕ → Type 0
 Classifies pixels height width setting colours n colours′ =
@@ -32,3 +38,12 @@ abbrev pub Builds : Picture → Slices → Numbers → Slices → Type 0
 Builds p s n s′ =
     (r : Built) × (building.numbered r ≡ n)
     × building.Outcome p (s .map) (s .rows) (s .exits) (s .work) r (s′ .map) (s′ .rows) (s′ .exits) (s′ .work)
+
+abbrev pub Runs : ℕ → List ℕ → List ℕ → ℕ → Bool → List ℕ → Lent → Numbers → Lent → Type 0
+Runs n rows exits limit mode input l k l′ =
+    (r : Ran) × (running.numbered r ≡ k)
+    × (running.outcome r (l′ .stack) (l′ .kinds) (l′ .values) ≡ running.outcomeOf n rows exits limit mode input l)
+
+-- nothing is lent besides the answer
+abbrev pub Tells : ℕ → List ℕ → List ℕ → Numbers → Unit {0} → Type 0
+Tells n rows exits k u = (r : Forever) × (always.numbered r ≡ k) × (r ≡ always.foreverOf n rows exits)

@@ -10,11 +10,19 @@ ghost use Rattle.picture.specs.Picture.{picture};
 ghost use Rattle.colour.specs.Classify as classifying;
 ghost use Rattle.colour.specs.Label as labelling;
 ghost use Rattle.cfg.specs.Build as building;
+ghost use Rattle.machine.specs.Machine.{statusOf};
+ghost use Rattle.machine.specs.Held as held;
+ghost use Rattle.interpreter.specs.Outcome as running;
+ghost use Rattle.interpreter.specs.Forever as always;
 ghost use Rattle.piet_c.specs.Exported.{Exported};
-ghost use Rattle.piet_c.specs.Calls.{Classifies, Labels, Builds, slices};
+ghost use Rattle.piet_c.specs.Calls.{Classifies, Labels, Builds, slices, Runs, Tells};
 use cfg::Built;
 use colour::classify::Classified;
 use colour::label::Labelled;
+use interpreter::Ended;
+use interpreter::Forever;
+use interpreter::Ran;
+use machine::Stop;
 
 // An answer of one value, and of two.
 struct One {
@@ -26,6 +34,19 @@ struct Two {
     number: u32,
     first: u64,
     second: u64,
+}
+
+// A run's answer.
+struct Eight {
+    number: u32,
+    status: u64,
+    steps: u64,
+    region: u64,
+    dp: u64,
+    cc: u64,
+    depth: u64,
+    outputs: u64,
+    used: u64,
 }
 
 fn put_one(answer: &mut [u64], value: u64)
@@ -41,6 +62,20 @@ fn put_two(answer: &mut [u64], first: u64, second: u64)
 {
     answer[0] = first;
     answer[1] = second;
+}
+
+fn put_eight(answer: &mut [u64], e: Eight)
+    requires { ⌜ 8 ≤ length (now answer) ⌝ }
+    ensures { λ _. ⌜ now (answer .exit) ≡ lent (e .status ∷ e .steps ∷ e .region ∷ e .dp ∷ e .cc ∷ e .depth ∷ e .outputs ∷ e .used ∷ []) (now (answer .entry)) ⌝ }
+{
+    answer[0] = e.status;
+    answer[1] = e.steps;
+    answer[2] = e.region;
+    answer[3] = e.dp;
+    answer[4] = e.cc;
+    answer[5] = e.depth;
+    answer[6] = e.outputs;
+    answer[7] = e.used;
 }
 
 fn of_classified(r: Classified) -> Two
@@ -202,4 +237,128 @@ pub extern "C" fn piet_build(
     let told = of_built(cfg::build(colours, height, width, codel, map, rows, exits, work));
     put_two(answer, told.first, told.second);
     told.number
+}
+
+fn of_stop(stop: Stop) -> u64
+    ensures { λ r. ⌜ r ≡ statusOf stop ⌝ }
+{
+    match stop {
+        Stop::Completed => 1,
+        Stop::MaxSteps => 2,
+        Stop::NeedsInput => 3,
+        Stop::StackFull => 4,
+        Stop::OutputFull => 5,
+        Stop::BadInput => 6,
+    }
+}
+
+fn of_ended(e: Ended) -> Eight
+    ensures { λ t. ⌜ numbers (t .number) (t .status ∷ t .steps ∷ t .region ∷ t .dp ∷ t .cc ∷ t .depth ∷ t .outputs ∷ t .used ∷ []) ≡ numbers 0 (running.resultOf e) ⌝ }
+{
+    let stop = e.stop;
+    let at = e.at;
+    let core = at.core;
+    let pointers = core.pointers;
+    Eight {
+        number: 0,
+        status: of_stop(stop),
+        steps: at.steps,
+        region: at.region as u64,
+        dp: pointers.dp as u64,
+        cc: pointers.cc as u64,
+        depth: core.depth as u64,
+        outputs: core.outputs as u64,
+        used: core.used as u64,
+    }
+}
+
+fn of_ran(r: Ran) -> Eight
+    ensures { λ t. ⌜ numbers (t .number) (t .status ∷ t .steps ∷ t .region ∷ t .dp ∷ t .cc ∷ t .depth ∷ t .outputs ∷ t .used ∷ []) ≡ running.numbered r ⌝ }
+{
+    match r {
+        Ran::Refused => Eight {
+            number: 10,
+            status: 0,
+            steps: 0,
+            region: 0,
+            dp: 0,
+            cc: 0,
+            depth: 0,
+            outputs: 0,
+            used: 0,
+        },
+        Ran::Finished(e) => of_ended(e),
+    }
+}
+
+fn of_forever(r: Forever) -> One
+    ensures { λ t. ⌜ numbers (t .number) (t .value ∷ []) ≡ always.numbered r ⌝ }
+{
+    match r {
+        Forever::Refused => One {
+            number: 10,
+            value: 0,
+        },
+        Forever::Yes => One {
+            number: 0,
+            value: 1,
+        },
+        Forever::No => One {
+            number: 0,
+            value: 0,
+        },
+    }
+}
+
+// Whether every node of a table has an exit; answer: 1 for yes, 0 for no.
+#[no_mangle]
+pub extern "C" fn piet_determine_runs_forever(
+    n: usize,
+    rows: &[u32],
+    exits: &[u32],
+    answer: &mut [u64],
+) -> u32
+    ensures { λ r. ⌜ Exported 1 (Tells n (now (rows .entry)) (now (exits .entry))) tt (now (answer .entry)) r tt (now (answer .exit)) ⌝ }
+{
+    if answer.len() < 1 {
+        return 4;
+    }
+    let told = of_forever(interpreter::determine_runs_forever(n, rows, exits));
+    put_one(answer, told.value);
+    told.number
+}
+
+// A run over a table; answer: status, steps, region, dp, cc, depth, outputs, used.
+#[no_mangle]
+pub extern "C" fn piet_run(
+    n: usize,
+    rows: &[u32],
+    exits: &[u32],
+    limit: u64,
+    abstract_mode: bool,
+    input: &[u8],
+    stack: &mut [i64],
+    kinds: &mut [u8],
+    values: &mut [i64],
+    answer: &mut [u64],
+) -> u32
+    ensures { λ r. ⌜ Exported 8 (Runs n (now (rows .entry)) (now (exits .entry)) limit «abstract_mode» (now (input .entry)) (held.lent (now (stack .entry)) (now (kinds .entry)) (now (values .entry)))) (held.lent (now (stack .entry)) (now (kinds .entry)) (now (values .entry))) (now (answer .entry)) r (held.lent (now (stack .exit)) (now (kinds .exit)) (now (values .exit))) (now (answer .exit)) ⌝ }
+{
+    if answer.len() < 8 {
+        return 4;
+    }
+    let told = of_ran(interpreter::run(
+        n,
+        rows,
+        exits,
+        limit,
+        abstract_mode,
+        input,
+        stack,
+        kinds,
+        values,
+    ));
+    let number = told.number;
+    put_eight(answer, told);
+    number
 }

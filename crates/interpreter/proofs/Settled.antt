@@ -1,0 +1,121 @@
+-- What the slices hold at the end is what the definition says of every cell. Assumes nothing.
+use mathlib.Core.Path.{_≡_, refl, sym, ap, ap₂, _∙_, subst}
+use mathlib.Core.Bool.{Bool}
+use mathlib.Core.List.{List, [], _∷_, _++_, map, map-append, reverse, reverse-cons}
+use Prim.Native.Nat.{ℕ, zero, suc, _+_, _-_, _<_, _≤_}
+use native.Mathlib.Omega.{arith}
+use lib.ListN.{length, getD, take, drop, replicate, length-drop, length-replicate, getD-replicate, take-append-drop}
+use lib.Seq.{take-suc, ext-getD, getD-drop}
+use lib.IntN.{ℤ, pos}
+use Rattle.stack.specs.Stack.{stackOf, Lies}
+use Rattle.stack.proofs.Cells.{stackOf-length}
+use Rattle.machine.specs.declared.Core.{Core}
+use Rattle.machine.specs.declared.Stop.{Stop}
+use Rattle.machine.specs.Output.{Emit, outsOf, Holds}
+use Rattle.machine.specs.Held.{Lent, lent, storeOf, Stands}
+use Rattle.machine.proofs.Only.{AsLong}
+use Rattle.machine.proofs.Emitting.{outs-length}
+use Rattle.interpreter.specs.Run.{Machine, End, runOf, start}
+use Rattle.interpreter.specs.Outcome.{cellsOf, kindsOf, valuesOf, lentOf, placeOf, Outcome, jobOf, finished}
+use Rattle.interpreter.specs.Placed.{machineOf, Reaches, Placed}
+use Rattle.interpreter.specs.declared.State.{State}
+use Rattle.interpreter.specs.declared.Ended.{Ended}
+use Rattle.interpreter.specs.declared.Ran.the-variants.{Finished}
+use Rattle.interpreter.proofs.Clearing.{Clean}
+use Rattle.interpreter.proofs.Running.{same-job}
+
+-- clean cells to the end
+module _ {A : Type 0} (z : A) (c : List A) (d : ℕ) where
+  clean : ((i : ℕ) → d ≤ i → getD c i z ≡ z) → drop d c ≡ replicate (length c - d) z
+  clean h =
+      ext-getD z (drop d c) (replicate (length c - d) z) (length-drop d c ∙ sym (length-replicate (length c - d) z))
+      (λ i l. getD-drop d c i z ∙ h (d + i) (omega arith) ∙ sym (getD-replicate (length c - d) i z z (omega (arith, length-drop d c))))
+
+  whole : (f : List A) → f ≡ take d c → ((i : ℕ) → d ≤ i → getD c i z ≡ z) → c ≡ f ++ replicate (length c - d) z
+  whole f e h = sym (take-append-drop d c) ∙ ap₂ _++_ (sym e) (clean h)
+
+bottom-up : (c : List ℤ) (d : ℕ) → d ≤ length c → reverse (stackOf c d) ≡ take d c
+unfolding stackOf
+bottom-up c zero h = refl
+bottom-up c (suc d) h =
+    reverse-cons (getD c d (pos 0)) (stackOf c d)
+    ∙ ap (λ (l : List ℤ). l ++ (getD c d (pos 0) ∷ [])) (bottom-up c d (omega arith))
+    ∙ sym (take-suc c d (pos 0) h)
+
+cells-are : (c : List ℤ) (d : ℕ) → Lies c d → c ≡ cellsOf (length c) (stackOf c d)
+cells-are c d l = rw (stackOf-length c d) (whole (pos 0) c d (reverse (stackOf c d)) (bottom-up c d (l .room)) (l .clean))
+
+-- one field of the outputs, in order
+module _ {B : Type 0} (z : B) (f : Emit → B) (kinds : List ℕ) (values : List ℤ) (c : List B)
+    (at : (k : ℕ) → f (record { kind = getD kinds k 0; value = getD values k (pos 0) }) ≡ getD c k z) where
+  in-order : (n : ℕ) → n ≤ length c → map f (outsOf kinds values n) ≡ take n c
+  unfolding outsOf
+  in-order zero h = refl
+  in-order (suc n) h =
+      map-append f (outsOf kinds values n) (record { kind = getD kinds n 0; value = getD values n (pos 0) } ∷ [])
+      ∙ ap₂ (λ (l : List B) (x : B). l ++ (x ∷ [])) (in-order n (omega arith)) (at n)
+      ∙ sym (take-suc c n z h)
+
+kinds-are : (kinds : List ℕ) (values : List ℤ) (n : ℕ) → Holds kinds values n
+    → kinds ≡ kindsOf (length kinds) (outsOf kinds values n)
+kinds-are kinds values n h =
+    rw (outs-length kinds values n)
+    (whole 0 kinds n (map (λ e. e .kind) (outsOf kinds values n))
+    (in-order 0 (λ e. e .kind) kinds values kinds (λ k. refl) n (h .kinds-room)) (h .kinds-clean))
+
+values-are : (kinds : List ℕ) (values : List ℤ) (n : ℕ) → Holds kinds values n
+    → values ≡ valuesOf (length values) (outsOf kinds values n)
+values-are kinds values n h =
+    rw (outs-length kinds values n)
+    (whole (pos 0) values n (map (λ e. e .value) (outsOf kinds values n))
+    (in-order (pos 0) (λ e. e .value) kinds values values (λ k. refl) n (h .values-room)) (h .values-clean))
+
+slices-are : (l l₀ : Lent) (at : Core) → AsLong l l₀ → Stands l at → l ≡ lentOf l₀ (storeOf l at)
+slices-are l l₀ at n s =
+    rw (← n .stack, ← n .kinds, ← n .values)
+    (λ i. lent (cells-are (l .stack) (at .depth) (s .lies) i) (kinds-are (l .kinds) (l .values) (at .outputs) (s .holds) i)
+    (values-are (l .kinds) (l .values) (at .outputs) (s .holds) i))
+
+state-is : (l : Lent) (at : State) → at ≡ placeOf (machineOf l at)
+state-is l at =
+    λ i. record {
+      region = at .region;
+      steps = at .steps;
+      core = record {
+        pointers = at .core .pointers;
+        depth = sym (stackOf-length (l .stack) (at .core .depth)) i;
+        outputs = sym (outs-length (l .kinds) (l .values) (at .core .outputs)) i;
+        used = at .core .used;
+        awaiting = at .core .awaiting;
+      };
+    }
+
+-- the answer and the slices of a run that reached e
+answered : Stop → State → Lent → Outcome
+answered s at l = record { answer = Finished (record { stop = s; at = at }); slices = l }
+
+pub settled : (n : ℕ) (e : End) (l l₀ : Lent) (r : Ended) → AsLong l l₀ → Reaches n e l r
+    → record { answer = Finished r; slices = l } ≡ finished l₀ e
+unfolding answered
+settled n e l l₀ r h q =
+    ap₂ (answered (r .stop)) (state-is l (r .at)) (slices-are l l₀ (r .at .core) h (q .placed .stands))
+    ∙ ap₂ (λ (s : Stop) (m : Machine). finished l₀ (record { stop = s; at = m })) (q .stop) (q .at)
+
+-- slices that were cleared
+pub from-start : (n : ℕ) (rows exits : List ℕ) (mode : Bool) (input : List ℕ) (limit : ℕ) (m : Machine) (l l₀ l′ : Lent) (r : Ended)
+    → AsLong l l₀ → Reaches n (runOf (jobOf rows exits mode input l) (limit - 0) m) l′ r
+    → Reaches n (runOf (jobOf rows exits mode input l₀) limit m) l′ r
+from-start n rows exits mode input limit m l l₀ l′ r h q =
+    let e : limit - 0 ≡ limit = omega arith in
+    subst (λ (x : End). Reaches n x l′ r) (ap₂ (λ j k. runOf j k m) (same-job rows exits mode input {l = l} {l₀ = l₀} h) e) q
+
+pub placed-start : (n : ℕ) (stack : List ℤ) (kinds : List ℕ) (values : List ℤ) → 0 < n → Clean (pos 0) stack
+    → Clean 0 kinds → Clean (pos 0) values → Placed n (lent stack kinds values) (placeOf start)
+placed-start n stack kinds values h s k v = record {
+  stands = record {
+    lies = record { room = omega arith; clean = λ i _. s i };
+    holds = record { kinds-room = omega arith; values-room = omega arith; kinds-clean = λ i _. k i; values-clean = λ i _. v i };
+    valid = record { dp = omega arith; cc = omega arith };
+  };
+  inside = h;
+}

@@ -1,0 +1,61 @@
+-- `interpreter::run` meets its contract. What the slices hold at the end is what the definition says of every cell. Assumes nothing.
+use mathlib.Core.Path.{refl, sym, _∙_}
+use borrow.Author.Tests.{not-true, not-false}
+use borrow.Author.Needs.{needs}
+use denote.Ref.{now}
+use Rattle.machine.specs.Held.{lent}
+use Rattle.interpreter.specs.Outcome.{jobOf}
+use Rattle.interpreter.specs.Run.{start, runOf}
+use Rattle.interpreter.proofs.Settled.{settled}
+use Rattle.interpreter.proofs.Validity.{good-of}
+use Rattle.interpreter.proofs.run.Statement.{statement}
+use Rattle.interpreter.proofs.run.Tie as tie
+
+valid-requires : tie.Need-valid-requires
+valid-requires c κs = search needs
+
+returns : tie.Need-returns
+returns c =
+    let v = c .before .valid in
+    rw (sym (v .ensures) ∙ not-true (v .result) (c .if1 .taken)) refl
+
+run-valid-requires : tie.Need-run-valid-requires
+run-valid-requires c κs =
+    let a = c .before .before .before .before .before .before .before .before .before .args in
+    let v = c .before .before .before .before .valid in
+    good-of (a .n) (now (a .rows)) (now (a .exits))
+    (sym (v .ensures) ∙ not-false (v .result) (c .before .before .before .if1 .left))
+
+same-length : tie.Need-same-length
+same-length c = search needs
+
+same-length-2 : tie.Need-same-length-2
+same-length-2 c = search needs
+
+same-length-3 : tie.Need-same-length-3
+same-length-3 c = search needs
+
+returns-2 : tie.Need-returns-2
+returns-2 c =
+    let the-args = c .before .before .before .before .before .before .before .before .before .before .before .before .before .before .args in
+    let the-run-valid = c .before .before .before .before .run-valid in
+    let the-valid = c .before .before .before .before .before .before .before .before .before .valid in
+    let the-if1 = c .before .before .before .before .before .before .before .before .if1 in
+    let l = lent (now (the-args .stack)) (now (the-args .kinds)) (now (the-args .values)) in
+    let l′ = lent (the-run-valid .last .1 .1 .1 .1 .1 .1 .0) (the-run-valid .last .1 .1 .1 .1 .1 .1 .1 .0) (the-run-valid .last .1 .1 .1 .1 .1 .1 .1 .1 .0) in
+    rw (sym (the-valid .ensures) ∙ not-false (the-valid .result) (the-if1 .left))
+    (settled (the-args .n) (runOf (jobOf (now (the-args .rows)) (now (the-args .exits)) (the-args .abstract-mode) (now (the-args .input)) l) (the-args .limit) start) l′ l (the-run-valid .result)
+    (record { stack = the-run-valid .kept .1 .1 .1 .1 .1 .1 .0; kinds = the-run-valid .kept .1 .1 .1 .1 .1 .1 .1 .0; values = the-run-valid .kept .1 .1 .1 .1 .1 .1 .1 .1 .0 })
+    (the-run-valid .ensures))
+
+pub run-spec : {M : Type 1} → statement M
+run-spec =
+    tie.close
+    (tie.spec
+    valid-requires
+    returns
+    run-valid-requires
+    same-length
+    same-length-2
+    same-length-3
+    returns-2)

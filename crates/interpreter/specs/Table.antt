@@ -1,0 +1,81 @@
+-- The lent table as a run reads it: refusal 10, a region's size, and the exit taken (document 01, "The run" and "Regions and
+-- exits"). Where rows and exits stand, and what an exit number says, is the crate table's. Assumes nothing.
+use mathlib.Core.Bool.{Bool, true, false, cond, not, _&&_, _||_}
+use mathlib.Core.List.{List}
+use Prim.Native.Nat.{ℕ, zero, suc, _<_, _≤_}
+use lib.Dec.{eqb, leb, ltb}
+use lib.ListN.{length, getD}
+use Rattle.flow.specs.declared.PointerState.{PointerState}
+use Rattle.flow.specs.Pointer.{numberOf, ofNumber, attemptOf}
+use Rattle.machine.specs.declared.Op.{Op}
+use Rattle.machine.specs.Machine.{numbered}
+use Rattle.table.specs.Layout.{rowCell, sizeField, markField, exitCell, rowsRoom, exitsRoom}
+use Rattle.table.specs.ExitNumber.{targetOf, stateOf, instructionOf, largestExit}
+
+-- the pointers and the instruction of an exit
+abbrev pub pointersOf : ℕ → PointerState
+pointersOf w = ofNumber (stateOf w)
+
+abbrev pub opOf : ℕ → Op
+opOf w = numbered (instructionOf w)
+
+-- a region's size, and its node mark
+abbrev pub sizeOf : List ℕ → ℕ → ℕ
+sizeOf rows region = getD rows (rowCell region sizeField) 0
+
+abbrev pub markOf : List ℕ → ℕ → ℕ
+markOf rows region = getD rows (rowCell region markField) 0
+
+-- the exit of a region in the state tried k-th
+abbrev pub tried : List ℕ → ℕ → PointerState → ℕ → ℕ
+tried exits region p k = getD exits (exitCell region (numberOf (attemptOf p k))) 0
+
+-- the first open one of j attempts from the k-th on, or 0
+unfoldable pub openFrom : List ℕ → ℕ → PointerState → ℕ → ℕ → ℕ
+openFrom exits region p zero k = 0
+openFrom exits region p (suc j) k = cond (eqb (tried exits region p k) 0) (openFrom exits region p j (suc k)) (tried exits region p k)
+
+-- the exit taken, of the eight attempts in their order; 0 where there is "no open attempt"
+abbrev pub exitOf : List ℕ → ℕ → PointerState → ℕ
+exitOf exits region p = openFrom exits region p 8 0
+
+-- some number below n passes; every one does
+unfoldable pub any : (ℕ → Bool) → ℕ → Bool
+any f zero = false
+any f (suc n) = f n || any f n
+
+unfoldable pub every : (ℕ → Bool) → ℕ → Bool
+every f zero = true
+every f (suc n) = f n && every f n
+
+-- "Refusal 10: n is 0 or above 65,536,
+abbrev pub wrongCount : ℕ → Bool
+wrongCount n = eqb n 0 || ltb 65536 n
+
+-- rows or exits short of 5n or 8n,
+abbrev pub tooShort : ℕ → List ℕ → List ℕ → Bool
+tooShort n rows exits = ltb (length rows) (rowsRoom n) || ltb (length exits) (exitsRoom n)
+
+-- a node mark above 1,
+abbrev pub wrongMark : List ℕ → ℕ → Bool
+wrongMark rows region = ltb 1 (markOf rows region)
+
+-- or an exit above 9,437,184 or with a target not below n"; 0, which is no exit, reads as target 0
+abbrev pub wrongExit : ℕ → ℕ → Bool
+wrongExit n w = ltb largestExit w || leb n (targetOf w)
+
+abbrev pub wrongTable : ℕ → List ℕ → List ℕ → Bool
+wrongTable n rows exits =
+    wrongCount n
+    || (tooShort n rows exits || (any (wrongMark rows) n || any (λ i. wrongExit n (getD exits i 0)) (exitsRoom n)))
+
+abbrev pub validOf : ℕ → List ℕ → List ℕ → Bool
+validOf n rows exits = not (wrongTable n rows exits)
+
+-- what a run may rely on in a table that is not refused
+pub record Good (n : ℕ) (rows exits : List ℕ) : Type 0 where
+  pub some : 0 < n
+  pub few : n ≤ 65536
+  pub rows-fit : rowsRoom n ≤ length rows
+  pub exits-fit : exitsRoom n ≤ length exits
+  pub leads : (i : ℕ) → i < exitsRoom n → targetOf (getD exits i 0) < n

@@ -1,0 +1,43 @@
+-- Demand 3: the history of moves that a run of a picture makes, and what its result says of it. Nothing here speaks of
+-- rows, exits or an exit number. Assumes nothing.
+use mathlib.Core.Path.{_≡_}
+use mathlib.Core.Bool.{Bool, false}
+use mathlib.Core.List.{List, [], _∷_}
+use mathlib.Core.Logic.{_↔_}
+use Prim.Native.Nat.{ℕ, _<_}
+use lib.ListN.{length}
+use Rattle.flow.specs.declared.PointerState.{PointerState}
+use Rattle.picture.specs.Picture.{Picture, codels}
+use Rattle.region.specs.Tally.{tally}
+use Rattle.machine.specs.declared.Stop.{Stop}
+use Rattle.machine.specs.declared.Stop.the-variants.{Completed}
+use Rattle.machine.specs.Machine.{Store, numbered, exec, does, withPointers}
+use Rattle.interpreter.specs.Run.{start, End}
+use Rattle.piet.specs.Moves.{FirstOpen, NoneOpen}
+
+-- one move: the region left, the region reached, the pointers that the way gives, and the instruction
+pub record Move : Type 0 where
+  pub from : ℕ
+  pub to : ℕ
+  pub pointers : PointerState
+  pub instruction : ℕ
+
+-- `Walk .. history r m`: after these moves, the latest first, the run stands at region r with the store m. It starts at
+-- region 0 with dp right and cc left and nothing else; each move is the first open one of the eight attempts from the
+-- pointers then held, and its instruction is executed with the size of the block just left.
+pub data Walk (p : Picture) (map : List ℕ) (mode : Bool) (input : List ℕ) : List Move → ℕ → Store → Type 0 where
+  starts : Walk p map mode input [] 0 (start .store)
+  moves : {history : List Move} {r target i : ℕ} {m m′ : Store} {u : PointerState} → Walk p map mode input history r m
+      → FirstOpen p map r (m .pointers) target u i
+      → exec mode input (tally r (codels p) map) (numbered i) (withPointers u m) ≡ does m′
+      → Walk p map mode input (record { from = r; to = target; pointers = u; instruction = i } ∷ history) target m′
+
+-- A run of a picture, under a limit, ends in e: there is a history that leads to the region and the store reported, its
+-- pointers included; its length is the steps reported; and Completed is answered exactly when the steps are below the limit,
+-- no input is awaited and none of the eight attempts is open.
+pub record Follows (p : Picture) (map : List ℕ) (mode : Bool) (input : List ℕ) (limit : ℕ) (e : End) : Type 0 where
+  pub history : List Move
+  pub walk : Walk p map mode input history (e .at .region) (e .at .store)
+  pub counted : e .at .steps ≡ length history
+  pub completed : (e .stop ≡ Completed)
+      ↔ ((e .at .steps < limit) × (e .at .store .awaiting ≡ false) × NoneOpen p map (e .at .region) (e .at .store .pointers))
