@@ -1,22 +1,9 @@
 // Replays stored tables of the Rust: `stdin` holds pictures, each a byte for the height, the width and the codel's width
 // and then a colour number a pixel; `stdout` has a line for each: the count of regions, the map, the rows and the exits.
-ghost use mathlib.Core.Path.{_≡_};
-ghost use Prim.Native.Nat.{_<_, _≤_};
-ghost use lib.ListN.{length};
+ghost use Prim.Native.Nat.{_≤_};
 use cfg::Built;
 use libc::STDIN_FILENO;
 use libc::STDOUT_FILENO;
-
-fn wide(b: u8) -> usize
-    ensures { λ r. ⌜ r ≡ b ⌝ }
-{
-    b as usize
-}
-
-fn print_cell(cell: u32) {
-    io::write_all(STDOUT_FILENO, b" ");
-    io::print_decimal(STDOUT_FILENO, cell as u64);
-}
 
 // The first k cells, or all where there are fewer, each after a space.
 fn print_cells(cells: &[u32], k: usize) {
@@ -26,7 +13,7 @@ fn print_cells(cells: &[u32], k: usize) {
         if i == k {
             return;
         }
-        print_cell(cells[i]);
+        stored::print_cell(cells[i]);
         i += 1;
     }
 }
@@ -99,38 +86,20 @@ fn codel_count(height: usize, width: usize, codel: usize) -> usize {
     rows * cols
 }
 
-// Where the record that begins at an index ends; a cut one ends with the records.
-fn record_end(records: &[u8], at: usize) -> usize
-    requires { ⌜ at < length (now records) ⌝ }
-    ensures above { λ r. ⌜ at < r ⌝ }
-    ensures within { λ r. ⌜ r ≤ length (now (records .entry)) ⌝ }
-{
-    let left = records.len() - at;
-    if left < 3 {
-        return records.len();
-    }
-    let height = wide(records[at]);
-    let width = wide(records[at + 1]);
-    if left - 3 < height * width {
-        return records.len();
-    }
-    at + 3 + height * width
-}
-
 fn print_record(record: &[u8]) {
     if record.len() < 3 {
         return;
     }
-    let height = wide(record[0]);
-    let width = wide(record[1]);
-    let codel = wide(record[2]);
+    let height = stored::wide(record[0]);
+    let width = stored::wide(record[1]);
+    let codel = stored::wide(record[2]);
     print_picture(&record[3..], height, width, codel);
 }
 
 fn print_records(records: &[u8]) {
     let mut at = 0;
     while at < records.len() {
-        let end = record_end(records, at);
+        let end = stored::picture_end(records, at);
         print_record(&records[at..end]);
         at = end;
     }

@@ -1,8 +1,13 @@
 //! Asks the given Rust and puts its answers into the numbers of document 01. Nothing here decides
 //! what the Rust decides.
 pub mod job;
+#[cfg(feature = "archive")]
+pub mod library;
 pub mod lines;
 pub mod machine;
 pub mod numbers;
 pub mod outside;
+pub mod paint;
 pub mod picture;
+pub mod question;
+pub mod random;

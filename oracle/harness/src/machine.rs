@@ -16,6 +16,7 @@ pub struct Terms<'a> {
     pub input: &'a [u8],
 }
 
+#[derive(Clone, Copy, Debug)]
 pub struct Room {
     pub stack: usize,
     pub outputs: usize,

@@ -12,6 +12,7 @@ use std::collections::HashMap;
 use std::fmt::{Display, Formatter};
 
 /// Colour numbers of the pixels, row by row.
+#[derive(Clone, Debug)]
 pub struct Picture {
     pub height: u32,
     pub width: u32,
@@ -31,7 +32,7 @@ pub struct Built {
 }
 
 impl Picture {
-    fn lightnesses(&self) -> Vec<Lightness> {
+    pub fn lightnesses(&self) -> Vec<Lightness> {
         self.colours.iter().map(|&c| colour(c)).collect()
     }
 
@@ -97,6 +98,11 @@ impl Built {
     /// `get_entry` panics where pixel (0,0) is white: refusal 9.
     pub fn refused_white(&self) -> bool {
         entry(&self.cfg).is_err()
+    }
+
+    /// The number of the region with this label.
+    pub fn region(&self, label: &str) -> usize {
+        self.labels.iter().position(|l| l == label).expect("a region's label")
     }
 
     fn add_region(&mut self, region: &Node, first: Position) {

@@ -13,8 +13,8 @@ abbrev μ-loop : tie.MeasureT-loop
 loop-holds : tie.Need-loop-holds Inv-loop μ-loop
 loop-holds c = search needs
 
-record-end-requires : tie.Need-record-end-requires Inv-loop μ-loop
-record-end-requires c κs = search needs
+picture-end-requires : tie.Need-picture-end-requires Inv-loop μ-loop
+picture-end-requires c κs = search needs
 
 sub-print-record : tie.Need-sub-print-record Inv-loop μ-loop
 sub-print-record c = search needs
@@ -44,7 +44,7 @@ print-records-spec =
     Inv-loop
     μ-loop
     loop-holds
-    record-end-requires
+    picture-end-requires
     sub-print-record
     part-print-record-start
     part-print-record-end

@@ -1,12 +1,18 @@
 //! Writes what the test programs that replay the Rust's answers have to print.
+mod answers;
+mod jobs;
+mod pictures;
 mod questions;
+mod records;
 
 use harness::lines::{char_in, int_in};
 use harness::numbers::{classify, decode, palette};
+use records::{picture_record, question_record, read_all, Reader};
 use std::io::{stdout, Write};
 use std::process::ExitCode;
 
-const USAGE: &str = "usage: replay pixels | replay colours | replay questions | replay lines FILE";
+const USAGE: &str = "usage: replay pixels | replay colours | replay questions | replay lines FILE
+     | replay pictures | replay tables FILE | replay jobs | replay runs FILE";
 
 fn main() -> ExitCode {
     let arguments: Vec<String> = std::env::args().skip(1).collect();
@@ -16,6 +22,10 @@ fn main() -> ExitCode {
         ["colours"] => Ok(colours().into_bytes()),
         ["questions"] => Ok(questions::records()),
         ["lines", file] => lines(file).map(String::into_bytes),
+        ["pictures"] => Ok(pictures::pictures().iter().flat_map(picture_record).collect()),
+        ["tables", file] => tables(file).map(String::into_bytes),
+        ["jobs"] => Ok(jobs::jobs().iter().flat_map(question_record).collect()),
+        ["runs", file] => runs(file).map(String::into_bytes),
         _ => Err(USAGE.into()),
     };
     match written.and_then(|bytes| stdout().write_all(&bytes).map_err(|e| e.to_string())) {
@@ -64,8 +74,19 @@ fn classified(pixel: [u8; 3]) -> String {
 }
 
 fn lines(file: &str) -> Result<String, String> {
-    let bytes = std::fs::read(file).map_err(|e| format!("{file}: {e}"))?;
-    Ok(questions::read(&bytes)?.into_iter().map(line).collect())
+    Ok(questions::read(&contents(file)?)?.into_iter().map(line).collect())
+}
+
+fn tables(file: &str) -> Result<String, String> {
+    Ok(read_all(&contents(file)?, Reader::picture)?.iter().map(answers::table).collect())
+}
+
+fn runs(file: &str) -> Result<String, String> {
+    read_all(&contents(file)?, Reader::question)?.iter().map(answers::run).collect()
+}
+
+fn contents(file: &str) -> Result<Vec<u8>, String> {
+    std::fs::read(file).map_err(|e| format!("{file}: {e}"))
 }
 
 /// What CharIn and IntIn do with one input, each with the bytes it consumes.

@@ -1,9 +1,9 @@
-use Prim.Native.Nat.{_+_, _≤_}
+use Prim.Native.Nat.{_≤_}
 use native.Mathlib.Omega.{arith}
 use borrow.Author.Needs.{needs}
 use Rattle.base.proofs.Sides.{area}
-use Rattle.replay_tables.proofs.record_end.Statement.{statement}
-use Rattle.replay_tables.proofs.record_end.Tie as tie
+use Rattle.stored.proofs.picture_end.Statement.{statement}
+use Rattle.stored.proofs.picture_end.Tie as tie
 
 sub-left : tie.Need-sub-left
 sub-left c = search needs
@@ -29,10 +29,8 @@ wide-requires-2 c κs = search needs
 mul-if2 : tie.Need-mul-if2
 mul-if2 c =
     let the-wide = c .before .before .wide in
-    let the-shared-slice-known2 = c .before .before .before .shared-slice-known2 in
-    let the-args = c .before .before .before .before .before .before .args in
-    let h : the-wide .result ≤ 1024 = omega (arith, the-wide .ensures, the-shared-slice-known2 .given (the-args .at)) in
-    let w : c .wide2 .result ≤ 1024 = omega (arith, c .wide2 .ensures, c .before .shared-slice-known3 .given (the-args .at + 1)) in
+    let h : the-wide .result ≤ 1024 = omega (arith, the-wide .ensures .1) in
+    let w : c .wide2 .result ≤ 1024 = omega (arith, c .wide2 .ensures .1) in
     record { fits = omega (arith, area h w) }
 
 returns-2 : tie.Need-returns-2
@@ -44,11 +42,8 @@ add-result c = search needs
 mul-result : tie.Need-mul-result
 mul-result c =
     let the-wide = c .before .before .before .wide in
-    let the-shared-slice-known2 = c .before .before .before .before .shared-slice-known2 in
-    let the-args = c .before .before .before .before .before .before .before .args in
-    let the-shared-slice-known3 = c .before .before .shared-slice-known3 in
-    let h : the-wide .result ≤ 1024 = omega (arith, the-wide .ensures, the-shared-slice-known2 .given (the-args .at)) in
-    let w : c .before .wide2 .result ≤ 1024 = omega (arith, c .before .wide2 .ensures, the-shared-slice-known3 .given (the-args .at + 1)) in
+    let h : the-wide .result ≤ 1024 = omega (arith, the-wide .ensures .1) in
+    let w : c .before .wide2 .result ≤ 1024 = omega (arith, c .before .wide2 .ensures .1) in
     record { fits = omega (arith, area h w) }
 
 add-result-2 : tie.Need-add-result-2
@@ -57,8 +52,8 @@ add-result-2 c = search needs
 returns-3 : tie.Need-returns-3
 returns-3 c = search needs
 
-pub record-end-spec : {M : Type 1} → statement M
-record-end-spec =
+pub picture-end-spec : {M : Type 1} → statement M
+picture-end-spec =
     tie.close
     (tie.spec
     sub-left

@@ -1,0 +1,59 @@
+use mathlib.Core.Path.{sym}
+use native.Mathlib.Omega.{arith}
+use lib.Seq.{length-take-le}
+use borrow.Author.Needs.{needs}
+use Rattle.replay_runs.proofs.lend_and_run.Statement.{statement}
+use Rattle.replay_runs.proofs.lend_and_run.Tie as tie
+
+shared-slice-read-wide : tie.Need-shared-slice-read-wide
+shared-slice-read-wide c = search needs
+
+wide-requires : tie.Need-wide-requires
+wide-requires c κs = search needs
+
+shared-slice-read-wide-2 : tie.Need-shared-slice-read-wide-2
+shared-slice-read-wide-2 c = search needs
+
+wide-requires-2 : tie.Need-wide-requires-2
+wide-requires-2 c κs = search needs
+
+array-borrow-prefix-stack : tie.Need-array-borrow-prefix-stack
+array-borrow-prefix-stack c = search needs
+
+slice-aggregate-print-run : tie.Need-slice-aggregate-print-run
+slice-aggregate-print-run c = sym (length-take-le _ _ (omega (arith, c .before .before .before .wide .ensures .1)))
+
+array-borrow-prefix-kinds : tie.Need-array-borrow-prefix-kinds
+array-borrow-prefix-kinds c = search needs
+
+slice-aggregate-print-run-2 : tie.Need-slice-aggregate-print-run-2
+slice-aggregate-print-run-2 c = sym (length-take-le _ _ (omega (arith, c .before .before .wide2 .ensures .1)))
+
+array-borrow-prefix-values : tie.Need-array-borrow-prefix-values
+array-borrow-prefix-values c = search needs
+
+slice-aggregate-print-run-3 : tie.Need-slice-aggregate-print-run-3
+slice-aggregate-print-run-3 c = sym (length-take-le _ _ (omega (arith, c .before .before .before .wide2 .ensures .1)))
+
+print-run-requires : tie.Need-print-run-requires
+print-run-requires c κs = search needs
+
+returns : tie.Need-returns
+returns c = search needs
+
+pub lend-and-run-spec : {M : Type 1} → statement M
+lend-and-run-spec =
+    tie.close
+    (tie.spec
+    shared-slice-read-wide
+    wide-requires
+    shared-slice-read-wide-2
+    wide-requires-2
+    array-borrow-prefix-stack
+    slice-aggregate-print-run
+    array-borrow-prefix-kinds
+    slice-aggregate-print-run-2
+    array-borrow-prefix-values
+    slice-aggregate-print-run-3
+    print-run-requires
+    returns)

@@ -1,0 +1,177 @@
+// Replays stored runs of the Rust: `stdin` holds questions, each a picture, then the limit in four bytes, the mode, the
+// stack's room, the output's room and the input's length, a byte each, and the input; `stdout` has a line for each: the
+// run's eight numbers, the stack from its top, and a kind and a value for each output.
+ghost use Prim.Native.Nat.{_≤_};
+ghost use lib.ListN.{length};
+use cfg::Built;
+use libc::STDIN_FILENO;
+use libc::STDOUT_FILENO;
+
+fn print_signed(v: i64) {
+    io::write_all(STDOUT_FILENO, b" ");
+    if v < 0 {
+        io::write_all(STDOUT_FILENO, b"-");
+    }
+    io::print_decimal(STDOUT_FILENO, word::abs(v));
+}
+
+fn print_answer(answer: &[u64; 8]) {
+    io::print_decimal(STDOUT_FILENO, answer[0]);
+    stored::print_number(answer[1]);
+    stored::print_number(answer[2]);
+    stored::print_number(answer[3]);
+    stored::print_number(answer[4]);
+    stored::print_number(answer[5]);
+    stored::print_number(answer[6]);
+    stored::print_number(answer[7]);
+}
+
+// The first depth values from the last to the first.
+fn print_stack(stack: &[i64], depth: u64) {
+    io::write_all(STDOUT_FILENO, b" :");
+    let mut i = stack.len();
+    while 0 < i {
+        i -= 1;
+        if (i as u64) < depth {
+            print_signed(stack[i]);
+        }
+    }
+}
+
+fn print_outputs(kinds: &[u8], values: &[i64], outputs: u64) {
+    io::write_all(STDOUT_FILENO, b" :");
+    let mut i = 0;
+    while i < kinds.len() {
+        if i < values.len() && (i as u64) < outputs {
+            stored::print_byte(kinds[i]);
+            print_signed(values[i]);
+        }
+        i += 1;
+    }
+}
+
+fn limit_of(a: u8, b: u8, c: u8, d: u8) -> u64 {
+    a as u64 + 256 * (b as u64 + 256 * (c as u64 + 256 * (d as u64)))
+}
+
+// The run that a question asks for, in the room that it lends.
+fn print_run(
+    n: usize,
+    rows: &[u32],
+    exits: &[u32],
+    question: &[u8],
+    stack: &mut [i64],
+    kinds: &mut [u8],
+    values: &mut [i64],
+)
+    requires { ⌜ 8 ≤ length (now question) ⌝ }
+{
+    let mut answer = [0u64; 8];
+    let limit = limit_of(question[0], question[1], question[2], question[3]);
+    let number = piet_c::piet_run(
+        n,
+        rows,
+        exits,
+        limit,
+        question[4] == 1,
+        &question[8..],
+        stack,
+        kinds,
+        values,
+        &mut answer,
+    );
+    if number != 0 {
+        io::write_all(STDOUT_FILENO, b"refused");
+        return;
+    }
+    print_answer(&answer);
+    print_stack(stack, answer[5]);
+    print_outputs(kinds, values, answer[6]);
+}
+
+fn lend_and_run(n: usize, rows: &[u32], exits: &[u32], question: &[u8])
+    requires { ⌜ 8 ≤ length (now question) ⌝ }
+{
+    let mut stack = [0i64; 256];
+    let mut kinds = [0u8; 256];
+    let mut values = [0i64; 256];
+    let depth = stored::wide(question[5]);
+    let room = stored::wide(question[6]);
+    print_run(
+        n,
+        rows,
+        exits,
+        question,
+        &mut stack[..depth],
+        &mut kinds[..room],
+        &mut values[..room],
+    );
+}
+
+fn print_question(picture: &[u8], question: &[u8]) {
+    if picture.len() < 3 {
+        return;
+    }
+    if question.len() < 8 {
+        return;
+    }
+    let mut map = [0u32; 1024];
+    let mut rows = [0u32; 5120];
+    let mut exits = [0u32; 8192];
+    let mut work = [0u32; 1024];
+    let height = stored::wide(picture[0]);
+    let width = stored::wide(picture[1]);
+    let codel = stored::wide(picture[2]);
+    let built = cfg::build(
+        &picture[3..],
+        height,
+        width,
+        codel,
+        &mut map,
+        &mut rows,
+        &mut exits,
+        &mut work,
+    );
+    match built {
+        Built::Done { regions } => {
+            lend_and_run(regions, &rows, &exits, question);
+        }
+        _ => {
+            io::write_all(STDOUT_FILENO, b"refused");
+        }
+    }
+    io::write_all(STDOUT_FILENO, b"\n");
+}
+
+// Where the question that begins at an index ends; a cut one ends with the records.
+fn question_end(records: &[u8], at: usize) -> usize
+    requires { ⌜ at ≤ length (now records) ⌝ }
+    ensures above { λ r. ⌜ at ≤ r ⌝ }
+    ensures within { λ r. ⌜ r ≤ length (now (records .entry)) ⌝ }
+{
+    let left = records.len() - at;
+    if left < 8 {
+        return records.len();
+    }
+    let input = stored::wide(records[at + 7]);
+    if left - 8 < input {
+        return records.len();
+    }
+    at + 8 + input
+}
+
+fn print_records(records: &[u8]) {
+    let mut at = 0;
+    while at < records.len() {
+        let middle = stored::picture_end(records, at);
+        let end = question_end(records, middle);
+        print_question(&records[at..middle], &records[middle..end]);
+        at = end;
+    }
+}
+
+fn main() {
+    let mut space = io::large_buffer();
+    let n = io::read_full(STDIN_FILENO, &mut space);
+    print_records(&space[..n]);
+}

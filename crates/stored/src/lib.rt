@@ -1,0 +1,43 @@
+// The records of the replay programs, and how their cells are printed.
+ghost use mathlib.Core.Path.{_≡_};
+ghost use Prim.Native.Nat.{_<_, _≤_};
+ghost use lib.ListN.{length};
+use libc::STDOUT_FILENO;
+
+pub fn wide(b: u8) -> usize
+    ensures same { λ r. ⌜ r ≡ b ⌝ }
+    ensures small { λ r. ⌜ r ≤ 255 ⌝ }
+{
+    b as usize
+}
+
+// Where the picture that begins at an index ends; a cut one ends with the records.
+pub fn picture_end(records: &[u8], at: usize) -> usize
+    requires { ⌜ at < length (now records) ⌝ }
+    ensures above { λ r. ⌜ at < r ⌝ }
+    ensures within { λ r. ⌜ r ≤ length (now (records .entry)) ⌝ }
+{
+    let left = records.len() - at;
+    if left < 3 {
+        return records.len();
+    }
+    let height = wide(records[at]);
+    let width = wide(records[at + 1]);
+    if left - 3 < height * width {
+        return records.len();
+    }
+    at + 3 + height * width
+}
+
+pub fn print_number(n: u64) {
+    io::write_all(STDOUT_FILENO, b" ");
+    io::print_decimal(STDOUT_FILENO, n);
+}
+
+pub fn print_cell(cell: u32) {
+    print_number(cell as u64);
+}
+
+pub fn print_byte(b: u8) {
+    print_number(b as u64);
+}

@@ -1,0 +1,45 @@
+//! compare: the archive against the Rust, at scale. Exits with 1 at the first difference.
+#[cfg(feature = "build")]
+mod building;
+#[allow(dead_code, reason = "a part alone uses some of it")]
+mod cases;
+#[cfg(feature = "classify")]
+mod classify;
+#[cfg(feature = "forever")]
+mod forever;
+#[cfg(feature = "label")]
+mod label;
+#[cfg(feature = "run")]
+mod running;
+#[cfg(any(feature = "forever", feature = "run"))]
+mod tables;
+
+use cases::Checked;
+use std::process::ExitCode;
+
+/// The parts that this program was built for.
+const PARTS: &[(&str, fn() -> Checked)] = &[
+    #[cfg(feature = "classify")]
+    ("classify", classify::compare),
+    #[cfg(feature = "build")]
+    ("build", building::compare),
+    #[cfg(feature = "label")]
+    ("label", label::compare),
+    #[cfg(feature = "forever")]
+    ("forever", forever::compare),
+    #[cfg(feature = "run")]
+    ("run", running::compare),
+];
+
+fn main() -> ExitCode {
+    for (name, compare) in PARTS {
+        match compare() {
+            Ok(counts) => println!("{name}: no difference in {counts}"),
+            Err(text) => {
+                println!("{text}");
+                return ExitCode::FAILURE;
+            }
+        }
+    }
+    ExitCode::SUCCESS
+}

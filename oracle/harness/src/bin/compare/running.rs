@@ -1,0 +1,165 @@
+//! The run: by chance, in lent room by chance, and what is refused.
+use crate::cases::{bits, check, hex, over, pattern, wide, Case, Checked, Outcome};
+use crate::tables::{shown_picture, smaller_pictures, Spoil};
+use harness::library::{self, Space};
+use harness::machine::{Answer, Judged, Output, Room, Terms};
+use harness::paint::{row, row_over_white};
+use harness::picture::{build, Built, Picture};
+use harness::question::Question;
+use harness::random::Random;
+
+const SEED: u64 = 6;
+const BY_CHANCE: usize = 500_000;
+const LONGEST: u32 = 8;
+
+#[derive(Clone)]
+struct Running {
+    question: Question,
+    spoil: Spoil,
+    /// by how much kinds and values are longer than the room for outputs; one of them is not
+    longer: [usize; 2],
+    answer: usize,
+}
+
+pub fn compare() -> Checked {
+    let mut random = Random::seeded(SEED);
+    check("run", (0..BY_CHANCE).map(|_| by_chance(&mut random)))
+}
+
+fn by_chance(random: &mut Random) -> Running {
+    let question = Question {
+        picture: picture(random),
+        limit: random.below(100) as u64,
+        is_abstract: random.one_in(8),
+        room: room(random),
+        input: random.input(),
+    };
+    let spoil = if random.one_in(16) { Spoil::by_chance(random) } else { Spoil::None };
+    let longer = random.pick(&[[0, 0], [2, 0], [0, 3]]);
+    let answer = if random.one_in(64) { random.below(8) } else { 8 + random.below(3) };
+    Running { question, spoil, longer, answer: answer as usize }
+}
+
+/// Of any kind, or one that runs a program.
+fn picture(random: &mut Random) -> Picture {
+    match random.below(3) {
+        0 => entered(random.picture(LONGEST)),
+        1 => row(&random.program()),
+        _ => row_over_white(&random.program()),
+    }
+}
+
+/// A run needs an entry that is not white.
+fn entered(picture: Picture) -> Picture {
+    let mut colours = picture.colours;
+    colours[0] = if colours[0] == 19 { 6 } else { colours[0] };
+    Picture { colours, ..picture }
+}
+
+fn room(random: &mut Random) -> Room {
+    let most = random.pick(&[1, 4, 30, 30, 30]);
+    Room { stack: random.below(most) as usize, outputs: random.below(most) as usize }
+}
+
+impl Running {
+    fn space(&self) -> Space {
+        let [kinds, values] = self.longer.map(|more| self.question.room.outputs + more);
+        let stack = pattern(self.question.room.stack);
+        Space { stack, kinds: pattern(kinds), values: pattern(values) }
+    }
+}
+
+/// What a run leaves: every cell past the depth or the outputs is 0.
+fn write(a: &Answer, space: &mut Space) {
+    let bottom_first: Vec<i64> = a.stack.iter().rev().copied().collect();
+    let (kinds, values): (Vec<u8>, Vec<i64>) = a.outputs.iter().map(kind_and_value).unzip();
+    space.stack.fill(0);
+    space.kinds.fill(0);
+    space.values.fill(0);
+    over(&bottom_first, &mut space.stack);
+    over(&kinds, &mut space.kinds);
+    over(&values, &mut space.values);
+}
+
+fn kind_and_value(output: &Output) -> (u8, i64) {
+    match *output {
+        Output::Char(c) => (1, c),
+        Output::Int(i) => (2, i),
+    }
+}
+
+fn cells(region: usize, a: &Answer) -> [u64; 8] {
+    let (region, used) = (region as u64, a.used as u64);
+    let (depth, outputs) = (a.stack.len() as u64, a.outputs.len() as u64);
+    [a.status as u64, a.steps, region, a.dp as u64, a.cc as u64, depth, outputs, used]
+}
+
+fn outcome(number: u32, answer: &[u64], space: &Space) -> Outcome {
+    Outcome(vec![
+        ("number", vec![number.into()]),
+        ("answer", bits(answer)),
+        ("stack", wide(&space.stack)),
+        ("kinds", wide(&space.kinds)),
+        ("values", wide(&space.values)),
+    ])
+}
+
+impl Running {
+    fn expected(&self, built: &Built, ran: &Answer) -> Outcome {
+        let (mut space, mut answer) = (self.space(), pattern(self.answer));
+        if answer.len() < 8 {
+            return outcome(4, &answer, &space);
+        }
+        if self.spoil.refused() {
+            over(&[0; 8], &mut answer);
+            return outcome(10, &answer, &space);
+        }
+        over(&cells(built.region(&ran.label), ran), &mut answer);
+        write(ran, &mut space);
+        outcome(0, &answer, &space)
+    }
+
+    fn found(&self, built: &Built, limit: u64) -> Outcome {
+        let (mut space, mut answer) = (self.space(), pattern(self.answer));
+        let Question { is_abstract, ref input, .. } = self.question;
+        let (table, terms) = (self.spoil.applied_to(built), Terms { limit, is_abstract, input });
+        let number = library::run(&table, &terms, &mut space, &mut answer);
+        outcome(number, &answer, &space)
+    }
+}
+
+impl Case for Running {
+    /// Where the Rust panics and document 01 chooses, the run is asked up to there only.
+    fn outcomes(&self) -> [Outcome; 2] {
+        let built = build(&self.question.picture);
+        let Judged { answer, panic } = self.question.judged(&built);
+        let limit = if panic.is_some() { answer.steps } else { self.question.limit };
+        [self.expected(&built, &answer), self.found(&built, limit)]
+    }
+
+    fn kind(expected: &Outcome) -> String {
+        let number = expected.list("number")[0];
+        let status = expected.list("answer").first().filter(|_| number == 0);
+        status.map_or(format!("number {number}"), |status| format!("status {status}"))
+    }
+
+    fn smaller(&self) -> impl Iterator<Item = Self> {
+        let question = &self.question;
+        let pictures = smaller_pictures(&question.picture).filter(|p| p.colours[0] != 19);
+        let lesser = pictures.map(|picture| Question { picture, ..question.clone() });
+        let sooner = question.limit.checked_sub(1).into_iter();
+        let sooner = sooner.map(|limit| Question { limit, ..question.clone() });
+        let rest = question.input.split_first().map(|(_, rest)| rest.to_vec()).into_iter();
+        let shorter = rest.map(|input| Question { input, ..question.clone() });
+        let all = lesser.chain(sooner).chain(shorter);
+        all.map(|question| Running { question, ..self.clone() })
+    }
+
+    fn shown(&self) -> String {
+        let Question { picture, limit, is_abstract, room, input } = &self.question;
+        let (mode, input) = (*is_abstract as u8, hex(input));
+        let (picture, Room { stack, outputs }) = (shown_picture(picture), room);
+        let Running { spoil, longer, answer, .. } = self;
+        format!("{picture} limit {limit} mode {mode} input {input} stack {stack} outputs {outputs} longer {longer:?} spoil {spoil:?} answer {answer}")
+    }
+}

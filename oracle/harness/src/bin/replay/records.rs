@@ -1,0 +1,62 @@
+//! Pictures and run questions as bytes. A picture is its height, width and codel width, a byte each,
+//! and a byte for each pixel's colour. A run question is a picture, the limit in four bytes, the
+//! mode, the stack's room, the output's room and the input's length, a byte each, and the input.
+use harness::machine::Room;
+use harness::picture::Picture;
+use harness::question::Question;
+
+pub fn picture_record(p: &Picture) -> Vec<u8> {
+    [vec![byte(p.height), byte(p.width), byte(p.codel)], p.colours.clone()].concat()
+}
+
+pub fn question_record(q: &Question) -> Vec<u8> {
+    let limit = u32::try_from(q.limit).expect("a limit fits four bytes");
+    let Room { stack, outputs } = q.room;
+    let rest = [q.is_abstract as u8, byte(stack), byte(outputs), byte(q.input.len())];
+    [&picture_record(&q.picture)[..], &limit.to_le_bytes(), &rest, &q.input].concat()
+}
+
+fn byte<N: TryInto<u8>>(number: N) -> u8 {
+    number.try_into().ok().expect("a number fits a byte")
+}
+
+/// All records of a file.
+pub fn read_all<'a, T>(
+    bytes: &'a [u8],
+    read: fn(&mut Reader<'a>) -> Option<T>,
+) -> Result<Vec<T>, String> {
+    let (mut reader, mut all) = (Reader(bytes), vec![]);
+    while !reader.0.is_empty() {
+        all.push(read(&mut reader).ok_or(format!("record {} is cut", all.len()))?);
+    }
+    Ok(all)
+}
+
+/// What is left of the records.
+pub struct Reader<'a>(&'a [u8]);
+
+impl<'a> Reader<'a> {
+    pub fn picture(&mut self) -> Option<Picture> {
+        let [height, width, codel] = self.numbers()?.map(u32::from);
+        let colours = self.take((height * width) as usize)?.to_vec();
+        Some(Picture { height, width, codel, colours })
+    }
+
+    pub fn question(&mut self) -> Option<Question> {
+        let picture = self.picture()?;
+        let limit = u32::from_le_bytes(self.numbers()?) as u64;
+        let [mode, stack, outputs, length] = self.numbers()?.map(usize::from);
+        let (room, input) = (Room { stack, outputs }, self.take(length)?.to_vec());
+        Some(Question { picture, limit, is_abstract: mode == 1, room, input })
+    }
+
+    fn numbers<const N: usize>(&mut self) -> Option<[u8; N]> {
+        self.take(N)?.try_into().ok()
+    }
+
+    fn take(&mut self, count: usize) -> Option<&'a [u8]> {
+        let (taken, rest) = self.0.split_at_checked(count)?;
+        self.0 = rest;
+        Some(taken)
+    }
+}

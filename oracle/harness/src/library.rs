@@ -1,0 +1,200 @@
+//! The functions of the archive, on slices. Each returns document 01's number.
+
+#[link(name = "piet_c", kind = "static")]
+extern "C" {
+    #[cfg(feature = "classify")]
+    fn piet_classify(
+        pixels: *const u8,
+        pixels_length: usize,
+        height: usize,
+        width: usize,
+        setting: u8,
+        colours: *mut u8,
+        colours_length: usize,
+        answer: *mut u64,
+        answer_length: usize,
+    ) -> u32;
+    #[cfg(feature = "build")]
+    fn piet_build(
+        colours: *const u8,
+        colours_length: usize,
+        height: usize,
+        width: usize,
+        codel: usize,
+        map: *mut u32,
+        map_length: usize,
+        rows: *mut u32,
+        rows_length: usize,
+        exits: *mut u32,
+        exits_length: usize,
+        work: *mut u32,
+        work_length: usize,
+        answer: *mut u64,
+        answer_length: usize,
+    ) -> u32;
+    #[cfg(feature = "label")]
+    fn piet_label(
+        colour: u8,
+        row: usize,
+        column: usize,
+        out: *mut u8,
+        out_length: usize,
+        answer: *mut u64,
+        answer_length: usize,
+    ) -> u32;
+    #[cfg(feature = "forever")]
+    fn piet_determine_runs_forever(
+        n: usize,
+        rows: *const u32,
+        rows_length: usize,
+        exits: *const u32,
+        exits_length: usize,
+        answer: *mut u64,
+        answer_length: usize,
+    ) -> u32;
+    #[cfg(feature = "run")]
+    fn piet_run(
+        n: usize,
+        rows: *const u32,
+        rows_length: usize,
+        exits: *const u32,
+        exits_length: usize,
+        limit: u64,
+        abstract_mode: bool,
+        input: *const u8,
+        input_length: usize,
+        stack: *mut i64,
+        stack_length: usize,
+        kinds: *mut u8,
+        kinds_length: usize,
+        values: *mut i64,
+        values_length: usize,
+        answer: *mut u64,
+        answer_length: usize,
+    ) -> u32;
+}
+
+#[cfg(feature = "classify")]
+pub fn classify(
+    pixels: &[u8],
+    (height, width): (usize, usize),
+    setting: u8,
+    colours: &mut [u8],
+    answer: &mut [u64],
+) -> u32 {
+    // SAFETY: each pointer comes with the length of its slice
+    unsafe {
+        piet_classify(
+            pixels.as_ptr(),
+            pixels.len(),
+            height,
+            width,
+            setting,
+            colours.as_mut_ptr(),
+            colours.len(),
+            answer.as_mut_ptr(),
+            answer.len(),
+        )
+    }
+}
+
+/// The four slices that building is lent.
+#[cfg(feature = "build")]
+pub struct Lent {
+    pub map: Vec<u32>,
+    pub rows: Vec<u32>,
+    pub exits: Vec<u32>,
+    pub work: Vec<u32>,
+}
+
+#[cfg(feature = "build")]
+pub fn build(
+    colours: &[u8],
+    (height, width, codel): (usize, usize, usize),
+    lent: &mut Lent,
+    answer: &mut [u64],
+) -> u32 {
+    // SAFETY: each pointer comes with the length of its slice
+    unsafe {
+        piet_build(
+            colours.as_ptr(),
+            colours.len(),
+            height,
+            width,
+            codel,
+            lent.map.as_mut_ptr(),
+            lent.map.len(),
+            lent.rows.as_mut_ptr(),
+            lent.rows.len(),
+            lent.exits.as_mut_ptr(),
+            lent.exits.len(),
+            lent.work.as_mut_ptr(),
+            lent.work.len(),
+            answer.as_mut_ptr(),
+            answer.len(),
+        )
+    }
+}
+
+#[cfg(feature = "label")]
+pub fn label(colour: u8, (row, column): (usize, usize), out: &mut [u8], answer: &mut [u64]) -> u32 {
+    let (o, a) = (out.as_mut_ptr(), answer.as_mut_ptr());
+    // SAFETY: each pointer comes with the length of its slice
+    unsafe { piet_label(colour, row, column, o, out.len(), a, answer.len()) }
+}
+
+/// A table as it is lent, which the named number of regions need not fit.
+#[cfg(any(feature = "forever", feature = "run"))]
+#[derive(Clone, Debug)]
+pub struct Table {
+    pub n: usize,
+    pub rows: Vec<u32>,
+    pub exits: Vec<u32>,
+}
+
+#[cfg(feature = "forever")]
+pub fn determine_runs_forever(table: &Table, answer: &mut [u64]) -> u32 {
+    let Table { n, rows, exits } = table;
+    let (r, e, a) = (rows.as_ptr(), exits.as_ptr(), answer.as_mut_ptr());
+    // SAFETY: each pointer comes with the length of its slice
+    unsafe { piet_determine_runs_forever(*n, r, rows.len(), e, exits.len(), a, answer.len()) }
+}
+
+/// The three slices that a run is lent.
+#[cfg(feature = "run")]
+pub struct Space {
+    pub stack: Vec<i64>,
+    pub kinds: Vec<u8>,
+    pub values: Vec<i64>,
+}
+
+#[cfg(feature = "run")]
+pub fn run(
+    table: &Table,
+    terms: &crate::machine::Terms,
+    space: &mut Space,
+    answer: &mut [u64],
+) -> u32 {
+    // SAFETY: each pointer comes with the length of its slice
+    unsafe {
+        piet_run(
+            table.n,
+            table.rows.as_ptr(),
+            table.rows.len(),
+            table.exits.as_ptr(),
+            table.exits.len(),
+            terms.limit,
+            terms.is_abstract,
+            terms.input.as_ptr(),
+            terms.input.len(),
+            space.stack.as_mut_ptr(),
+            space.stack.len(),
+            space.kinds.as_mut_ptr(),
+            space.kinds.len(),
+            space.values.as_mut_ptr(),
+            space.values.len(),
+            answer.as_mut_ptr(),
+            answer.len(),
+        )
+    }
+}

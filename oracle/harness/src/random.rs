@@ -1,0 +1,110 @@
+//! Pictures and inputs by chance, from a generator of our own: one seed gives the same everywhere.
+use crate::numbers::instruction;
+use crate::paint::Op;
+use crate::picture::Picture;
+
+/// SplitMix64.
+pub struct Random(u64);
+
+const BLACK: u8 = 18;
+const WHITE: u8 = 19;
+
+/// Lines that inputs are put together from; the last has to end an input.
+const LINES: [&[u8]; 14] = [
+    b"5\n",
+    b"-3\r\n",
+    b" 12 \n",
+    b"x\n",
+    b"\n",
+    b"\xE2\x82\xACuro\n",
+    b"+7\n",
+    b"0\n",
+    b"65\n",
+    b"2\n",
+    b"9223372036854775807\n",
+    b"-9223372036854775808\n",
+    b"4\xFF\n",
+    b"1",
+];
+
+impl Random {
+    pub fn seeded(seed: u64) -> Self {
+        Random(seed)
+    }
+
+    pub fn next(&mut self) -> u64 {
+        self.0 = self.0.wrapping_add(0x9E37_79B9_7F4A_7C15);
+        let z = (self.0 ^ (self.0 >> 30)).wrapping_mul(0xBF58_476D_1CE4_E5B9);
+        let z = (z ^ (z >> 27)).wrapping_mul(0x94D0_49BB_1331_11EB);
+        z ^ (z >> 31)
+    }
+
+    /// A number below this one, which is at least 1.
+    pub fn below(&mut self, bound: u32) -> u32 {
+        ((self.next() >> 32) * bound as u64 >> 32) as u32
+    }
+
+    pub fn pick<T: Copy>(&mut self, from: &[T]) -> T {
+        from[self.below(from.len() as u32) as usize]
+    }
+
+    pub fn one_in(&mut self, count: u32) -> bool {
+        self.below(count) == 0
+    }
+
+    /// Sides from 1 to the longest, codel width 1 to 3, few colours; pixel (0,0) is seldom white.
+    pub fn picture(&mut self, longest: u32) -> Picture {
+        let (height, width) = (1 + self.below(longest), 1 + self.below(longest));
+        let (codel, few) = (self.codel(), self.few_colours());
+        let mut colours = self.pixels(height as usize, width as usize, &few);
+        if colours[0] == WHITE && !self.one_in(16) {
+            colours[0] = self.below(WHITE as u32) as u8;
+        }
+        Picture { height, width, codel, colours }
+    }
+
+    fn codel(&mut self) -> u32 {
+        self.pick(&[1, 1, 1, 2, 3])
+    }
+
+    /// Three to six, white and black often.
+    fn few_colours(&mut self) -> Vec<u8> {
+        (0..3 + self.below(4)).map(|_| self.colour()).collect()
+    }
+
+    fn colour(&mut self) -> u8 {
+        match self.below(4) {
+            0 => self.pick(&[BLACK, WHITE]),
+            _ => self.below(20) as u8,
+        }
+    }
+
+    /// In half of the pictures a pixel often has the colour of the one before it or above it, so that
+    /// regions grow.
+    fn pixels(&mut self, height: usize, width: usize, few: &[u8]) -> Vec<u8> {
+        let grows = self.one_in(2);
+        let mut colours = vec![];
+        for at in 0..height * width {
+            let back = self.pick(&[1, width]);
+            let copied = grows && at >= back && !self.one_in(3);
+            let fresh = self.pick(few);
+            colours.push(if copied { colours[at - back] } else { fresh });
+        }
+        colours
+    }
+
+    pub fn input(&mut self) -> Vec<u8> {
+        (0..self.below(6)).flat_map(|_| self.pick(&LINES)).copied().collect()
+    }
+
+    /// Up to twenty instructions, values often among them.
+    pub fn program(&mut self) -> Vec<Op> {
+        (0..1 + self.below(20)).map(|_| self.op()).collect()
+    }
+
+    fn op(&mut self) -> Op {
+        let number =
+            if self.one_in(2) { self.pick(&[1, 1, 1, 16]) } else { 1 + self.below(17) as u8 };
+        (instruction(number), 1 + self.below(4) as usize)
+    }
+}
