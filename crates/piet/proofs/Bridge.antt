@@ -1,22 +1,21 @@
 -- From a table built from a picture to the picture: what an exit says is what walking codels says. Assumes nothing.
 use mathlib.Core.Path.{_≡_, refl, sym, ap, subst, _∙_}
-use mathlib.Core.Bool.{Bool, true, false, cond}
+use mathlib.Core.Bool.{Bool, true, false}
 use mathlib.Core.List.{List}
 use mathlib.Core.Logic.{_⊎_, inl, inr, ⊎-elim}
 use Prim.Native.Nat.{ℕ, zero, suc, _+_, _<_, _≤_}
 use native.Mathlib.Omega.{arith}
-use native.Mathlib.Numerals.{add-one}
 use borrow.Author.Tests.{eqb-true, eqb-false, eq-eqb, ne-eqb}
 use lib.Dec.{eqb}
 use lib.ListN.{length, getD}
 use Rattle.flow.specs.declared.PointerState.{PointerState}
 use Rattle.flow.specs.Pointer.{Valid, numberOf, ofNumber, attemptOf}
 use Rattle.flow.proofs.Order.{of-number, number-small, valid-number, valid-attempt}
-use Rattle.colour.specs.Decode.{decodeOf}
-use Rattle.picture.specs.Picture.{Picture, Inside, colsOf, codels, colourAt, hueAt, indexOf, Sound}
+use Rattle.piet.specs.Moves.{Opens, beside, across, Shut, FirstOpen, NoneOpen}
+use Rattle.picture.specs.Picture.{Picture, Inside, codels, hueAt, indexOf, Sound}
 use Rattle.picture.proofs.Codels.{cols-pos, index-in, inside-of}
 use Rattle.table.specs.Layout.{rowCell, sizeField, exitCell}
-use Rattle.table.specs.ExitNumber.{exitNumber, targetOf, stateOf, instructionOf}
+use Rattle.table.specs.ExitNumber.{exitNumber, targetOf, instructionOf}
 use Rattle.table.proofs.Exits.{target-back, state-back, instruction-back}
 use Rattle.exit.specs.declared.attempt.Way.{Way}
 use Rattle.exit.specs.declared.attempt.Way.the-variants.{Closed, Step, Astray, Glide}
@@ -31,7 +30,6 @@ use Rattle.cfg.proofs.Leads.{Leads, exit-cases}
 use Rattle.region.specs.Grid.{gridOf}
 use Rattle.region.proofs.MapLaws.{map-few}
 use Rattle.interpreter.specs.Table.{tried, openFrom, exitOf, pointersOf}
-use Rattle.piet.specs.Moves.{Opens, beside, across, Shut, FirstOpen, NoneOpen}
 
 clash : {A : Type 0} → _≡_ {A = ℕ} 0 1 → A
 clash e = absurd (no e)

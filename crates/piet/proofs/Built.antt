@@ -1,16 +1,19 @@
 -- Demand 3, from what building and running promise: a run of what was built from a picture is not refused, and it follows
 -- the picture. Assumes nothing.
-use mathlib.Core.Path.{_≡_, refl, sym, ap, subst, _∙_}
-use mathlib.Core.Bool.{Bool, true, false, cond, not, _||_}
-use mathlib.Core.List.{List}
-use mathlib.Core.Logic.{⊎-elim, _⊎_, inl, inr}
-use Prim.Native.Nat.{ℕ, zero, suc, _+_, _*_, _/_, _%_, _<_, _≤_}
+use mathlib.Core.Path.{_≡_, refl, sym, ap, _∙_}
+use mathlib.Core.Bool.{Bool, true, false, true≢false}
+use mathlib.Core.List.{List, [], _∷_}
+use mathlib.Core.Logic.{⊎-elim}
+use Prim.Native.Nat.{ℕ, zero, suc, _/_, _%_, _<_, _≤_}
 use native.Mathlib.Omega.{arith}
-use borrow.Author.Tests.{lt-ltb, le-ltb, lt-leb, ne-eqb}
-use lib.Dec.{eqb, ltb, leb}
+use borrow.Author.Tests.{le-ltb, lt-leb, eq-eqb, ne-eqb}
 use lib.IntN.{ℤ}
 use lib.ListN.{length, getD, take, length-take}
 use lib.Seq.{getD-take}
+use Rattle.base.specs.Numbers.{numbers}
+use Rattle.base.proofs.Refusals.{passed}
+use Rattle.machine.specs.Held.{Lent, stackRoom, outRoom}
+use Rattle.piet.specs.Follows.{Follows}
 use Rattle.colour.specs.Palette.{white}
 use Rattle.picture.specs.Picture.{Picture, codels, Sound}
 use Rattle.picture.proofs.Codels.{first-in}
@@ -20,15 +23,16 @@ use Rattle.table.proofs.Exits.{target-back}
 use Rattle.region.specs.Grid.{gridOf}
 use Rattle.region.proofs.MapLaws.{map-few}
 use Rattle.cfg.specs.Table.{Marks, is, none, Builds}
-use Rattle.cfg.specs.Build.{Enough, Written}
+use Rattle.cfg.specs.declared.building.Built.the-variants.{Done}
+use Rattle.cfg.specs.Build as building
+use Rattle.cfg.specs.Build.{Written, refusals, refusal}
+use Rattle.cfg.proofs.Refusing.{accepted}
 use Rattle.cfg.proofs.Leads.{Leads, leads-small, exit-leads}
-use Rattle.machine.specs.Held.{Lent}
 use Rattle.interpreter.specs.declared.Ran.{Ran}
-use Rattle.interpreter.specs.declared.Ran.the-variants.{Refused, Finished}
-use Rattle.interpreter.specs.Table.{any, wrongMark, wrongExit, wrongTable, validOf, markOf}
+use Rattle.interpreter.specs.declared.Ran.the-variants.{Finished}
+use Rattle.interpreter.specs.Table.{any, wrongMark, wrongExit, validOf, markOf}
 use Rattle.interpreter.specs.Run.{End, runOf, start}
 use Rattle.interpreter.specs.Outcome.{Outcome, outcome, outcomeOf, endedOf, jobOf}
-use Rattle.piet.specs.Follows.{Follows}
 use Rattle.piet.proofs.Bridge.{Tabled}
 use Rattle.piet.proofs.Following.{follows}
 
@@ -106,10 +110,45 @@ module _ {p : Picture} {map rows exits work map′ rows′ exits′ work′ : Li
   -- a run of what was built is finished, and follows the picture
   pub run-follows : (getD (p .colours) 0 0 ≡ white → ⊥) → (limit : ℕ) (mode : Bool) (input : List ℕ) (l : Lent) {r : Ran} {stack : List ℤ} {kinds : List ℕ} {values : List ℤ}
       → outcome r stack kinds values ≡ outcomeOf n rows′ exits′ limit mode input l
-      → (e : End) × (r ≡ Finished (endedOf e)) × Follows p (take (codels p) map′) mode input limit e
+      → (e : End) × (r ≡ Finished (endedOf e)) × Follows p (take (codels p) map′) mode input (stackRoom l) (outRoom l) limit e
   run-follows entry limit mode input l {r} e =
       let j = jobOf rows′ exits′ mode input l in (
         runOf j limit start,
         ap (λ (o : Outcome). o .answer) (rw valid at e),
         follows S tabled mode input (j .stackRoom) (j .outRoom) entry limit,
       )
+
+-- what is built is not refused, so it does not begin white
+coloured : (p : Picture) (m r e w : ℕ) (v : List ℕ) → numbers 0 v ≡ refusal p m r e w → getD (p .colours) 0 0 ≡ white → ⊥
+unfolding refusal refusals
+coloured p m r e w v h k =
+    let a = passed _ 0 _ v _ _ h in
+    let b = passed _ 5 _ v _ _ (a .1) in
+    let c = passed _ 6 _ v _ _ (b .1) in
+    let d = passed _ 1 _ v _ _ (c .1) in
+    let f = passed _ 7 _ v _ _ (d .1) in
+    let g = passed _ 8 _ v _ _ (f .1) in
+    true≢false (sym (eq-eqb _ _ k) ∙ g .0)
+
+-- Demand 3, from the two contracts as they stand: `build` answered n, and `run` was called on what it wrote
+pub picture-follows : {p : Picture} {map rows exits work map′ rows′ exits′ work′ : List ℕ} {n : ℕ}
+    → building.Outcome p map rows exits work (Done n) map′ rows′ exits′ work′
+    → (limit : ℕ) (mode : Bool) (input : List ℕ) (l : Lent) {r : Ran} {stack : List ℤ} {kinds : List ℕ} {values : List ℤ}
+    → outcome r stack kinds values ≡ outcomeOf n rows′ exits′ limit mode input l
+    → (e : End) × (r ≡ Finished (endedOf e)) × Follows p (take (codels p) map′) mode input (stackRoom l) (outRoom l) limit e
+picture-follows (building.refused k v e h) limit mode input l o = absurd (refused-done k _ v h)
+  where
+    refused-done : (k n : ℕ) (v : List ℕ) → numbers 0 (n ∷ 0 ∷ []) ≡ numbers (suc k) v → ⊥
+    refused-done k n v h = let z : suc k ≡ 0 = cc in omega arith
+picture-follows {p} {map} {rows} {exits} {work} {rows′ = rows′} {exits′ = exits′} (building.done e W) limit mode input l o =
+    let s = accepted p (length map) (length rows) (length exits) (length work) (0 ∷ 0 ∷ []) (sym e) in
+    run-follows (s .sound) (long (rowsRoom (codels p)) rows′ (W .builds .rows-long)) (long (exitsRoom (codels p)) exits′ (W .builds .exits-long)) W
+    (coloured p (length map) (length rows) (length exits) (length work) (0 ∷ 0 ∷ []) (sym e))
+    limit
+    mode
+    input
+    l
+    o
+  where
+    long : (k : ℕ) (x : List ℕ) → length (take k x) ≡ k → k ≤ length x
+    long k x h = omega (arith, length-take k x)

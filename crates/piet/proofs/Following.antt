@@ -1,18 +1,30 @@
 -- Demand 3: the run of a table built from a picture follows the picture. Assumes nothing.
-use mathlib.Core.Path.{_≡_, refl, sym, ap, subst, _∙_}
+use mathlib.Core.Path.{_≡_, refl, sym, subst, _∙_}
 use mathlib.Core.Bool.{Bool, true, false, cond, true≢false}
 use mathlib.Core.List.{List, [], _∷_}
 use mathlib.Core.Logic.{_↔_}
-use Prim.Native.Nat.{ℕ, zero, suc, _+_, _<_, _≤_}
+use Prim.Native.Nat.{ℕ, zero, suc, _+_, _<_}
 use native.Mathlib.Omega.{arith}
-use native.Mathlib.Numerals.{add-one}
+use native.Mathlib.Nat.{zero-div, zero-mod, zero-mul, zero-add}
 use borrow.Author.Tests.{eq-eqb, ne-eqb}
-use lib.Dec.{eqb, ltb}
+use lib.Dec.{ltb}
 use lib.IntN.{ℤ}
 use lib.ListN.{length, getD}
 use Rattle.flow.specs.declared.PointerState.{PointerState}
-use Rattle.flow.specs.Pointer.{Valid, startState, rotated, switched}
+use Rattle.flow.specs.Pointer.{Valid, rotated, switched}
 use Rattle.flow.proofs.Order.{valid-rotated, valid-switched}
+use Rattle.text.specs.declared.number.Number.{Number}
+use Rattle.text.specs.declared.input.Taken.{Taken as Line}
+use Rattle.text.specs.declared.input.Taken.the-variants.{Push, Skip, BadInput as BadLine}
+use Rattle.text.specs.Input.{charOf, intOf}
+use Rattle.text.specs.Reading.{takeOf}
+use Rattle.machine.specs.declared.Stop.{Stop}
+use Rattle.machine.specs.declared.Stop.the-variants.{Completed, MaxSteps, NeedsInput, StackFull, OutputFull, BadInput}
+use Rattle.machine.specs.Machine.{Store, Effect, does, bad-input, Out, keeps, stops, numbered, exec, fitting, withPointers, byTop, turn, write, take, read}
+use Rattle.machine.specs.declared.Op.{Op}
+use Rattle.machine.specs.declared.Op.the-variants.{Nothing, Push as PushOp, Pop, Pair, Not, Ptr, Swi, Dup, Roll, CharIn, CharOut, IntIn, IntOut}
+use Rattle.piet.specs.Moves.{FirstOpen, NoneOpen}
+use Rattle.piet.specs.Follows.{Move, Walk, starts, moves, Barred, Follows}
 use Rattle.colour.specs.Palette.{white}
 use Rattle.picture.specs.Picture.{Picture, colsOf, codels, hueAt, Sound}
 use Rattle.picture.proofs.Codels.{first-in}
@@ -22,21 +34,8 @@ use Rattle.cfg.specs.Nodes.{Node, entry}
 use Rattle.cfg.proofs.NodeLaws.{joined-hue}
 use Rattle.region.specs.Grid.{gridOf}
 use Rattle.region.proofs.MapLaws.{map-low}
-use native.Mathlib.Nat.{zero-div, zero-mod, zero-mul, zero-add}
-use Rattle.machine.specs.declared.Stop.{Stop}
-use Rattle.machine.specs.declared.Stop.the-variants.{Completed, MaxSteps, NeedsInput, StackFull, OutputFull, BadInput}
-use Rattle.machine.specs.Machine.{Store, Effect, does, bad-input, Out, keeps, stops, numbered, exec, fitting, withPointers, byTop, turn, write, take, read}
-use Rattle.machine.specs.declared.Op.{Op}
-use Rattle.machine.specs.declared.Op.the-variants.{Nothing, Push as PushOp, Pop, Pair, Not, Ptr, Swi, Dup, Roll, CharIn, CharOut, IntIn, IntOut}
-use Rattle.text.specs.declared.number.Number.{Number}
-use Rattle.text.specs.declared.input.Taken.{Taken as Line}
-use Rattle.text.specs.declared.input.Taken.the-variants.{Push, Skip, BadInput as BadLine}
-use Rattle.text.specs.Input.{charOf, intOf}
-use Rattle.text.specs.Reading.{takeOf}
 use Rattle.interpreter.specs.Table.{exitOf, pointersOf, sizeOf, opOf}
-use Rattle.interpreter.specs.Run.{Job, Machine, start, Next, goes, halts, arrive, through, leave, stepOf, End, after, runOf}
-use Rattle.piet.specs.Moves.{FirstOpen, NoneOpen}
-use Rattle.piet.specs.Follows.{Move, Walk, starts, moves, Follows}
+use Rattle.interpreter.specs.Run.{Job, Machine, start, halts, arrive, leave, stepOf, after, runOf}
 use Rattle.piet.proofs.Bridge.{Tabled, Taken, none, some, taken}
 
 clash : {A : Type 0} → _≡_ {A = ℕ} 0 1 → A
@@ -83,7 +82,7 @@ executing mode input size CharOut m h = h
 executing mode input size IntIn m h = reading mode intOf input m h
 executing mode input size IntOut m h = h
 
--- ---- a step that is kept did what its instruction does, and one that is not kept does not stop as Completed
+-- ---- a step that is kept did what its instruction does, and one that is not kept stops as bad input or for room
 
 kept : (a b : ℕ) (e : Effect) {s : Store} → fitting a b e ≡ keeps s → e ≡ does s
 unfolding fitting
@@ -98,18 +97,39 @@ kept a b (does m) {s} h = first (ltb a (length (m .stack))) h
     first true h = clash (cc)
     first false h = second (ltb b (length (m .outs))) h
 
-never-completed : (a b : ℕ) (e : Effect) → fitting a b e ≡ stops Completed → ⊥
+-- the stops of a step that is not kept
+data Unkept : Stop → Type 0 where
+  bad : Unkept BadInput
+  stack : Unkept StackFull
+  output : Unkept OutputFull
+
+unkept : (a b : ℕ) (e : Effect) {s : Stop} → fitting a b e ≡ stops s → Unkept s
 unfolding fitting
-never-completed a b bad-input h = clash (cc)
-never-completed a b (does m) h = first (ltb a (length (m .stack))) h
+unkept a b bad-input {s} h = let z : BadInput ≡ s = cc in subst Unkept z bad
+unkept a b (does m) {s} h = first (ltb a (length (m .stack))) h
   where
-    second : (t : Bool) → cond t (stops OutputFull) (keeps m) ≡ stops Completed → ⊥
-    second true h = clash (cc)
+    second : (t : Bool) → cond t (stops OutputFull) (keeps m) ≡ stops s → Unkept s
+    second true h = let z : OutputFull ≡ s = cc in subst Unkept z output
     second false h = clash (cc)
 
-    first : (t : Bool) → cond t (stops StackFull) (cond (ltb b (length (m .outs))) (stops OutputFull) (keeps m)) ≡ stops Completed → ⊥
-    first true h = clash (cc)
+    first : (t : Bool) → cond t (stops StackFull) (cond (ltb b (length (m .outs))) (stops OutputFull) (keeps m)) ≡ stops s → Unkept s
+    first true h = let z : StackFull ≡ s = cc in subst Unkept z stack
     first false h = second (ltb b (length (m .outs))) h
+
+no-completed : {s : Stop} → Unkept s → s ≡ Completed → ⊥
+no-completed bad h = clash (cc)
+no-completed stack h = clash (cc)
+no-completed output h = clash (cc)
+
+no-limit : {s : Stop} → Unkept s → s ≡ MaxSteps → ⊥
+no-limit bad h = clash (cc)
+no-limit stack h = clash (cc)
+no-limit output h = clash (cc)
+
+no-wait : {s : Stop} → Unkept s → s ≡ NeedsInput → ⊥
+no-wait bad h = clash (cc)
+no-wait stack h = clash (cc)
+no-wait output h = clash (cc)
 
 module _ {p : Picture} {map rows exits : List ℕ} {n : ℕ} (S : Sound p) (B : Tabled p map rows exits n) (mode : Bool) (input : List ℕ) (a b : ℕ) where
   abbrev job : Job
@@ -123,17 +143,21 @@ module _ {p : Picture} {map rows exits : List ℕ} {n : ℕ} (S : Sound p) (B : 
   abbrev On : ℕ → ℕ → Type 0
   On limit left =
       (m : Machine) (history : List Move) → Walk p map mode input history (m .region) (m .store) → m .steps ≡ length history → Node p map (m .region)
-      → m .region < n → Valid (m .store .pointers) → m .steps + left ≡ limit → Follows p map mode input limit (runOf job left m)
+      → m .region < n → Valid (m .store .pointers) → m .steps + left ≡ limit → Follows p map mode input a b limit (runOf job left m)
 
   follows-from : (left : ℕ) (m : Machine) (history : List Move) (limit : ℕ) → Walk p map mode input history (m .region) (m .store)
       → m .steps ≡ length history → Node p map (m .region) → m .region < n → Valid (m .store .pointers) → m .steps + left ≡ limit
-      → Follows p map mode input limit (runOf job left m)
+      → Follows p map mode input a b limit (runOf job left m)
   unfolding runOf after arrive
   follows-from zero m history limit w c N l v e = record {
     history = history;
     walk = w;
     counted = c;
+    within = omega arith;
+    limited = (λ h. omega arith, λ h. refl);
+    awaited = (λ h. clash (cc), λ h. absurd (late (h .0)));
     completed = (λ h. clash (cc), λ h. absurd (late (h .0)));
+    barred = λ h. absurd (h refl);
   }
     where
       late : m .steps < limit → ⊥
@@ -141,20 +165,40 @@ module _ {p : Picture} {map rows exits : List ℕ} {n : ℕ} (S : Sound p) (B : 
   follows-from (suc left) m history limit w c N l v e =
       awaited (λ m′ h′ w′ c′ N′ l′ v′ e′. follows-from left m′ h′ limit w′ c′ N′ l′ v′ e′) (m .store .awaiting) refl
     where
-      here : (s : Stop) → ((s ≡ Completed) ↔ ((m .steps < limit) × (m .store .awaiting ≡ false) × NoneOpen p map (m .region) (m .store .pointers)))
-          → Follows p map mode input limit (record { stop = s; at = m })
-      here s i = record { history = history; walk = w; counted = c; completed = i }
-
       below : m .steps < limit
       below = omega arith
 
-      arrives : On limit left → (x : ℕ) → FirstOpen p map (m .region) (m .store .pointers) (targetOf x) (pointersOf x) (instructionOf x) → Node p map (targetOf x) → targetOf x < n
+      short : m .steps ≡ limit → ⊥
+      short h = omega arith
+
+      here : (s : Stop) → (s ≡ MaxSteps → ⊥) → ((s ≡ NeedsInput) ↔ (m .store .awaiting ≡ true))
+          → ((s ≡ Completed) ↔ ((m .store .awaiting ≡ false) × NoneOpen p map (m .region) (m .store .pointers)))
+          → ((s ≡ NeedsInput → ⊥) → (s ≡ Completed → ⊥) → Barred p map mode input a b (m .region) (m .store) s)
+          → Follows p map mode input a b limit (record { stop = s; at = m })
+      here s x i j k = record {
+        history = history;
+        walk = w;
+        counted = c;
+        within = omega arith;
+        limited = (λ h. absurd (x h), λ h. absurd (short h));
+        awaited = (λ h. (below, i .0 h), λ h. i .1 (h .1));
+        completed = (λ h. (below, j .0 h .0, j .0 h .1), λ h. j .1 (h .1, h .2));
+        barred = λ g. k;
+      }
+
+      arrives : On limit left → m .store .awaiting ≡ false → (x : ℕ) → FirstOpen p map (m .region) (m .store .pointers) (targetOf x) (pointersOf x) (instructionOf x) → Node p map (targetOf x) → targetOf x < n
           → Valid (pointersOf x) → (o : Out)
           → fitting a b (exec mode input (sizeOf rows (m .region)) (opOf x) (withPointers (pointersOf x) (m .store))) ≡ o
-          → Follows p map mode input limit (after (runOf job left) m (arrive x m o))
-      arrives on x F M t u (stops s) h =
-          here s (λ z. absurd (never-completed a b _ (h ∙ ap stops z)), λ z. absurd (both (z .2) F))
-      arrives on x F M t u (keeps s) h =
+          → Follows p map mode input a b limit (after (runOf job left) m (arrive x m o))
+      arrives on f x F M t u (stops s) h =
+          let k = unkept a b _ h in
+          let z : fitting a b (exec mode input (tally (m .region) (codels p) map) (numbered (instructionOf x)) (withPointers (pointersOf x) (m .store))) ≡ stops s =
+          rw (B .size (m .region) l) at h in
+          here s (no-limit k)
+          (λ q. absurd (no-wait k q), λ q. absurd (true≢false (sym q ∙ f)))
+          (λ q. absurd (no-completed k q), λ q. absurd (both (q .1) F))
+          (λ g g′. record { target = targetOf x; pointers = pointersOf x; instruction = instructionOf x; next = F; unkept = z })
+      arrives on f x F M t u (keeps s) h =
           let d = kept a b _ h in
           let z : exec mode input (tally (m .region) (codels p) map) (numbered (instructionOf x)) (withPointers (pointersOf x) (m .store)) ≡ does s =
           rw (B .size (m .region) l) at d in
@@ -169,20 +213,24 @@ module _ {p : Picture} {map rows exits : List ℕ} {n : ℕ} (S : Sound p) (B : 
           (omega arith)
 
       leaves : On limit left → Taken S B (m .region) (m .store .pointers) (exitOf exits (m .region) (m .store .pointers)) → m .store .awaiting ≡ false
-          → Follows p map mode input limit (after (runOf job left) m (leave job (exitOf exits (m .region) (m .store .pointers)) m))
-      leaves on (none z shut) f = rw (eq-eqb (exitOf exits (m .region) (m .store .pointers)) 0 z) (here Completed (λ h. (below, f, shut), λ h. refl))
+          → Follows p map mode input a b limit (after (runOf job left) m (leave job (exitOf exits (m .region) (m .store .pointers)) m))
+      leaves on (none z shut) f = rw (eq-eqb (exitOf exits (m .region) (m .store .pointers)) 0 z)
+          (here Completed (λ h. clash (cc)) (λ h. clash (cc), λ h. absurd (true≢false (sym h ∙ f))) (λ h. (f, shut), λ h. refl)
+          (λ g g′. absurd (g′ refl)))
       leaves on (some d F M t u) f =
           rw (ne-eqb (exitOf exits (m .region) (m .store .pointers)) 0 d)
-          (arrives on (exitOf exits (m .region) (m .store .pointers)) F M t u
+          (arrives on f (exitOf exits (m .region) (m .store .pointers)) F M t u
           (fitting a b (exec mode input (sizeOf rows (m .region)) (opOf (exitOf exits (m .region) (m .store .pointers))) (withPointers (pointersOf (exitOf exits (m .region) (m .store .pointers))) (m .store))))
           refl)
 
       Stepped : Bool → Type 0
       Stepped t =
-          Follows p map mode input limit (after (runOf job left) m (cond t (halts NeedsInput) (leave job (exitOf exits (m .region) (m .store .pointers)) m)))
+          Follows p map mode input a b limit (after (runOf job left) m (cond t (halts NeedsInput) (leave job (exitOf exits (m .region) (m .store .pointers)) m)))
 
-      awaited : On limit left → (t : Bool) → m .store .awaiting ≡ t → Follows p map mode input limit (after (runOf job left) m (stepOf job m))
-      awaited on true f = subst Stepped (sym f) (here NeedsInput (λ h. clash (cc), λ h. absurd (true≢false (sym f ∙ h .1))))
+      awaited : On limit left → (t : Bool) → m .store .awaiting ≡ t → Follows p map mode input a b limit (after (runOf job left) m (stepOf job m))
+      awaited on true f = subst Stepped (sym f)
+          (here NeedsInput (λ h. clash (cc)) (λ h. f, λ h. refl) (λ h. clash (cc), λ h. absurd (true≢false (sym f ∙ h .0)))
+          (λ g g′. absurd (g refl)))
       awaited on false f = subst Stepped (sym f) (leaves on (taken S B (m .region) (m .store .pointers) l v N) f)
 
   -- region 0 is a node where the picture does not begin white
@@ -199,7 +247,7 @@ module _ {p : Picture} {map rows exits : List ℕ} {n : ℕ} (S : Sound p) (B : 
       first-hue = rw (zero-div (colsOf p), zero-mod (colsOf p), zero-mul (p .codel), zero-mul (p .width))
 
   -- the run from the start follows the picture
-  pub follows : (getD (p .colours) 0 0 ≡ white → ⊥) → (limit : ℕ) → Follows p map mode input limit (runOf job limit start)
+  pub follows : (getD (p .colours) 0 0 ≡ white → ⊥) → (limit : ℕ) → Follows p map mode input a b limit (runOf job limit start)
   follows W limit =
       follows-from limit start [] limit starts refl (entry-node W) (some-region (first-in S)) (record { dp = omega arith; cc = omega arith }) (zero-add limit)
     where

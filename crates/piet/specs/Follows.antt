@@ -1,19 +1,19 @@
 -- Demand 3: the history of moves that a run of a picture makes, and what its result says of it. Nothing here speaks of
 -- rows, exits or an exit number. Assumes nothing.
 use mathlib.Core.Path.{_≡_}
-use mathlib.Core.Bool.{Bool, false}
+use mathlib.Core.Bool.{Bool, true, false}
 use mathlib.Core.List.{List, [], _∷_}
 use mathlib.Core.Logic.{_↔_}
-use Prim.Native.Nat.{ℕ, _<_}
+use Prim.Native.Nat.{ℕ, _<_, _≤_}
 use lib.ListN.{length}
 use Rattle.flow.specs.declared.PointerState.{PointerState}
+use Rattle.machine.specs.declared.Stop.{Stop}
+use Rattle.machine.specs.declared.Stop.the-variants.{Completed, MaxSteps, NeedsInput}
+use Rattle.machine.specs.Machine.{Store, numbered, exec, does, withPointers, fitting, stops}
+use Rattle.piet.specs.Moves.{FirstOpen, NoneOpen}
 use Rattle.picture.specs.Picture.{Picture, codels}
 use Rattle.region.specs.Tally.{tally}
-use Rattle.machine.specs.declared.Stop.{Stop}
-use Rattle.machine.specs.declared.Stop.the-variants.{Completed}
-use Rattle.machine.specs.Machine.{Store, numbered, exec, does, withPointers}
 use Rattle.interpreter.specs.Run.{start, End}
-use Rattle.piet.specs.Moves.{FirstOpen, NoneOpen}
 
 -- one move: the region left, the region reached, the pointers that the way gives, and the instruction
 pub record Move : Type 0 where
@@ -32,12 +32,26 @@ pub data Walk (p : Picture) (map : List ℕ) (mode : Bool) (input : List ℕ) : 
       → exec mode input (tally r (codels p) map) (numbered i) (withPointers u m) ≡ does m′
       → Walk p map mode input (record { from = r; to = target; pointers = u; instruction = i } ∷ history) target m′
 
--- A run of a picture, under a limit, ends in e: there is a history that leads to the region and the store reported, its
--- pointers included; its length is the steps reported; and Completed is answered exactly when the steps are below the limit,
--- no input is awaited and none of the eight attempts is open.
-pub record Follows (p : Picture) (map : List ℕ) (mode : Bool) (input : List ℕ) (limit : ℕ) (e : End) : Type 0 where
+-- the first open move is not taken: its instruction can't be kept in the room that is lent, and the run stops for s
+pub record Barred (p : Picture) (map : List ℕ) (mode : Bool) (input : List ℕ) (stackRoom outRoom r : ℕ) (m : Store) (s : Stop) : Type 0 where
+  pub target : ℕ
+  pub pointers : PointerState
+  pub instruction : ℕ
+  pub next : FirstOpen p map r (m .pointers) target pointers instruction
+  pub unkept : fitting stackRoom outRoom (exec mode input (tally r (codels p) map) (numbered instruction) (withPointers pointers m)) ≡ stops s
+
+-- A run of a picture, in lent room and under a limit, ends in e: there is a history that leads to the region and the store
+-- reported, its pointers included; its length is the steps reported; and it stops for the reason reported and for no other:
+-- "steps equal to the limit, status 2"; "in abstract mode after an input instruction, 3"; "no open attempt, 1"; else the
+-- next move can't be kept.
+pub record Follows (p : Picture) (map : List ℕ) (mode : Bool) (input : List ℕ) (stackRoom outRoom limit : ℕ) (e : End) : Type 0 where
   pub history : List Move
   pub walk : Walk p map mode input history (e .at .region) (e .at .store)
   pub counted : e .at .steps ≡ length history
+  pub within : e .at .steps ≤ limit
+  pub limited : (e .stop ≡ MaxSteps) ↔ (e .at .steps ≡ limit)
+  pub awaited : (e .stop ≡ NeedsInput) ↔ ((e .at .steps < limit) × (e .at .store .awaiting ≡ true))
   pub completed : (e .stop ≡ Completed)
       ↔ ((e .at .steps < limit) × (e .at .store .awaiting ≡ false) × NoneOpen p map (e .at .region) (e .at .store .pointers))
+  pub barred : (e .stop ≡ MaxSteps → ⊥) → (e .stop ≡ NeedsInput → ⊥) → (e .stop ≡ Completed → ⊥)
+      → Barred p map mode input stackRoom outRoom (e .at .region) (e .at .store) (e .stop)

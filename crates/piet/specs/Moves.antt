@@ -1,6 +1,5 @@
 -- A move of a picture, judged by walking codels. A region is named by its number in `map`, the numbering of the picture's
 -- regions by first codels (`IsMap`), which the picture determines. Assumes nothing.
-use mathlib.Core.Path.{_≡_}
 use mathlib.Core.List.{List}
 use Prim.Native.Nat.{ℕ, _<_}
 use Rattle.flow.specs.declared.PointerState.{PointerState}
@@ -8,7 +7,6 @@ use Rattle.flow.specs.Pointer.{numberOf, attemptOf}
 use Rattle.colour.specs.Instruction.{none}
 use Rattle.colour.specs.Decode.{decodeOf}
 use Rattle.picture.specs.Picture.{Picture, colourAt, hueAt}
-use Rattle.exit.specs.declared.attempt.Way.{Way}
 use Rattle.exit.specs.declared.attempt.Way.the-variants.{Step, Glide}
 use Rattle.cfg.specs.Nodes.{Tried, regionAt}
 
