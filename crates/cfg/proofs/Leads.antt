@@ -17,14 +17,14 @@ use Rattle.cfg.specs.Table.{Exit, node, no-node, Builds}
 use Rattle.table.specs.Layout.{exitCell}
 use Rattle.colour.specs.Decode.{decodeOf}
 use Rattle.exit.specs.declared.attempt.Way.{Way}
-use Rattle.picture.specs.Picture.{Picture, Inside, colourAt, codels, hueAt, indexOf, Sound}
+use Rattle.picture.specs.Picture.{Picture, Inside, colourAt, codels, codelColour, indexOf, Sound}
 use Rattle.colour.specs.Palette.{white}
 use Rattle.exit.proofs.SlideLaws.{white-inside, coloured-inside, coloured-colour}
 use Rattle.exit.proofs.SlideEnds.{landing as lands-at}
 use Rattle.exit.specs.Attempt.{Attempt, shut, step, glide, lost}
 use Rattle.region.specs.Region.{IsMap}
 use Rattle.region.proofs.MapLaws.{map-few}
-use Rattle.cfg.proofs.NodeLaws.{joined-hue}
+use Rattle.cfg.proofs.NodeLaws.{joined-shade}
 use Rattle.colour.proofs.DecodeLaws.{decode-small}
 use Rattle.region.specs.Grid.{gridOf}
 use Rattle.picture.proofs.Codels.{index-in, row-of, col-of, inside-of}
@@ -42,14 +42,14 @@ pub record Leads (p : Picture) (map : List ℕ) (n x : ℕ) : Type 0 where
   pub node : Node p map target
 
 module _ {p : Picture} {map : List ℕ} {n : ℕ} (S : Sound p) (M : IsMap (gridOf p) map n) where
-  hue-at : (a b : ℕ) → Inside p a b → hueAt p (indexOf p a b) ≡ colourAt p a b
-  hue-at a b i = rw (row-of p a b i, col-of p a b i)
+  shade-at : (a b : ℕ) → Inside p a b → codelColour p (indexOf p a b) ≡ colourAt p a b
+  shade-at a b i = rw (row-of p a b i, col-of p a b i)
 
   -- a found region with a coloured codel is a node
   coloured-node : (a b : ℕ) → Inside p a b → (colourAt p a b ≡ white → ⊥) → Found p map (regionAt p map a b) → Node p map (regionAt p map a b)
   coloured-node a b i d f = record {
     found = f;
-    coloured = λ w. d (sym (hue-at a b i) ∙ sym (joined-hue (M .apart (w .codel) (indexOf p a b) (w .inside) (index-in p a b i) (w .own))) ∙ w .hue);
+    coloured = λ w. d (sym (shade-at a b i) ∙ sym (joined-shade (M .apart (w .codel) (indexOf p a b) (w .inside) (index-in p a b i) (w .own))) ∙ w .shade);
   }
 
   attempt-leads : {r c : ℕ} {q : PointerState} {w : Way} (from s : ℕ) → s < 8 → Inside p r c → Valid q → ((x : ℕ) → Adds p map w x → Found p map x) → Attempt p r c q w

@@ -9,3 +9,4 @@ pub mod Keeping
 pub mod Stages
 pub mod Refusing
 pub mod Leads
+pub mod Ahead

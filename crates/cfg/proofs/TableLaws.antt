@@ -10,7 +10,7 @@ use lib.Seq.{ext-getD}
 use Rattle.cfg.specs.Nodes.{wayNumber}
 use Rattle.cfg.specs.Table.{Marks, is, none, Row, Exit, node, no-node, Builds}
 use Rattle.table.specs.Layout.{rowCell}
-use Rattle.picture.specs.Picture.{Picture, colsOf, codels, hueAt}
+use Rattle.picture.specs.Picture.{Picture, colsOf, codels, codelColour}
 use Rattle.region.specs.Grid.{gridOf}
 use Rattle.region.proofs.MapLaws.{settled}
 use Rattle.region.proofs.RowLaws.{first-one}
@@ -25,8 +25,8 @@ one-mark (none a) (none b) = refl
 module _ {p : Picture} {map : List ℕ} (h : 0 < colsOf p) (l : length map ≡ codels p) where
   one-exit : {r s x y : ℕ} → s < 8 → Exit p map r s x → Exit p map r s y → x ≡ y
   one-exit {r} {s} k (node {w = w} a t) (node {w = w′} b u) =
-      ap (λ (i : ℕ). wayNumber p map (hueAt p i) s w) (same-codel h l k t u)
-      ∙ ap (wayNumber p map (hueAt p (u .codel)) s) (same-way h l k t u)
+      ap (λ (i : ℕ). wayNumber p map (codelColour p i) s w) (same-codel h l k t u)
+      ∙ ap (wayNumber p map (codelColour p (u .codel)) s) (same-way h l k t u)
   one-exit k (node a t) (no-node b) = absurd (b a)
   one-exit k (no-node a) (node b u) = absurd (a b)
   one-exit k (no-node a) (no-node b) = refl
@@ -38,7 +38,7 @@ module _ {p : Picture} {map : List ℕ} (h : 0 < colsOf p) (l : length map ≡ c
       e = first-one map (codels p) r (a .first) (b .first) (a .is-first) (b .is-first)
 
       cells : (c : ℕ) → c < 5 → getD rows (rowCell r c) 0 ≡ getD rows′ (rowCell r c) 0
-      cells zero l = a .colour ∙ ap (hueAt p) e ∙ sym (b .colour)
+      cells zero l = a .colour ∙ ap (codelColour p) e ∙ sym (b .colour)
       cells (suc zero) l = a .size ∙ sym (b .size)
       cells (suc (suc zero)) l = a .row ∙ ap (λ (z : ℕ). z / colsOf p * p .codel) e ∙ sym (b .row)
       cells (suc (suc (suc zero))) l = a .column ∙ ap (λ (z : ℕ). z % colsOf p * p .codel) e ∙ sym (b .column)

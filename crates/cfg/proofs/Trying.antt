@@ -19,7 +19,7 @@ use Rattle.table.specs.Layout.{exitCell, exitsRoom}
 use Rattle.exit.specs.declared.attempt.Way.{Way}
 use Rattle.exit.specs.declared.attempt.Way.the-variants.{Step, Glide}
 use Rattle.colour.specs.Decode.{decodeOf}
-use Rattle.picture.specs.Picture.{Picture, Inside, rowsOf, colsOf, colourAt, codels, hueAt}
+use Rattle.picture.specs.Picture.{Picture, Inside, rowsOf, colsOf, colourAt, codels, codelColour}
 use Rattle.exit.specs.Attempt.{Attempt, shut, step, glide, lost}
 use Rattle.exit.proofs.SlideLaws.{white-inside, coloured-inside}
 use Rattle.exit.proofs.SlideEnds.{landing}
@@ -40,7 +40,7 @@ placed {p} {r} {c} {s} i v (lost {r′ = a} {c′ = b} e d) = white-inside p r c
 pub tries : {p : Picture} {map : List ℕ} {r s i v : ℕ} {w : Way} {rows exits work : List ℕ} {tail : ℕ} {rows′ work′ : List ℕ} {tail′ : ℕ}
     → Grounds p map → Found p map r → Queue p map rows work tail → length work ≡ codels p → s < 8
     → Leaves map (rowsOf p) (colsOf p) (ofNumber s) r i → Attempt p (i / colsOf p) (i % colsOf p) (ofNumber s) w → Placed p w
-    → v ≡ wayNumber p map (hueAt p i) s w → Queued map (colsOf p) rows work tail w rows′ work′ tail′
+    → v ≡ wayNumber p map (codelColour p i) s w → Queued map (colsOf p) rows work tail w rows′ work′ tail′
     → Tries p map r s rows exits work tail rows′ (set exits (exitCell r s) v) work′ tail′
 tries {p} {map} {r} {s} {i} {v} {w} G f Q long h l a inside e d =
     let t : Tried p map r s w = record { codel = i; leaves = l; way = a } in
@@ -108,8 +108,8 @@ module _ {p : Picture} {map : List ℕ} {r j : ℕ} (s : ℕ) (G : Grounds p map
       → Tries p map r s rows exits work tail rows′ (set exits (exitCell r s) v) work′ tail′
   tries-read {v} {from} {q} {w} f Q long h eq a inside ef e d =
       let a′ : Attempt p (j / colsOf p) (j % colsOf p) (ofNumber s) w = rw (ei, ec, eq) at a in
-      let ef′ : from ≡ hueAt p j = rw (ei, ec) at ef in
-      let e′ : v ≡ wayNumber p map (hueAt p j) s w = rw ef′ at e in
+      let ef′ : from ≡ codelColour p j = rw (ei, ec) at ef in
+      let e′ : v ≡ wayNumber p map (codelColour p j) s w = rw ef′ at e in
       tries G f Q long h l a′ inside e′ d
 
 -- what the next of the eight attempts asks

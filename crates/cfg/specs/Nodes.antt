@@ -7,7 +7,7 @@ use Rattle.flow.specs.Pointer.{numberOf, ofNumber}
 use Rattle.flow.specs.declared.PointerState.{PointerState}
 use Rattle.colour.specs.Decode.{decodeOf}
 use Rattle.colour.specs.Palette.{white}
-use Rattle.picture.specs.Picture.{Picture, rowsOf, colsOf, codels, colourAt, indexOf, hueAt}
+use Rattle.picture.specs.Picture.{Picture, rowsOf, colsOf, codels, colourAt, indexOf, codelColour}
 use Rattle.table.specs.ExitNumber.{exitNumber}
 use Rattle.exit.specs.declared.attempt.Way.{Way}
 use Rattle.exit.specs.declared.attempt.Way.the-variants.{Closed, Step, Astray, Glide}
@@ -49,7 +49,7 @@ pub record White (p : Picture) (map : List ℕ) (r : ℕ) : Type 0 where
   pub codel : ℕ
   pub inside : codel < codels p
   pub own : getD map codel 0 ≡ r
-  pub hue : hueAt p codel ≡ white
+  pub shade : codelColour p codel ≡ white
 
 -- a node: found, "white ones then left out"
 pub record Node (p : Picture) (map : List ℕ) (r : ℕ) : Type 0 where

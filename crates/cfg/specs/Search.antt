@@ -12,7 +12,7 @@ use Rattle.flow.specs.declared.PointerState.{PointerState}
 use Rattle.cfg.specs.Nodes.{Tried, wayNumber, Adds, Found}
 use Rattle.cfg.specs.Table.{Marks}
 use Rattle.colour.specs.Palette.{white}
-use Rattle.picture.specs.Picture.{Picture, Inside, rowsOf, colsOf, codels, hueAt, Sound}
+use Rattle.picture.specs.Picture.{Picture, Inside, rowsOf, colsOf, codels, codelColour, Sound}
 use Rattle.table.specs.Layout.{colourField, markField, rowCell, exitCell, rowsRoom, exitsRoom}
 use Rattle.region.specs.Tally.{more}
 use Rattle.region.specs.Grid.{gridOf}
@@ -100,7 +100,7 @@ pub record Onward (p : Picture) (map rows work : List ℕ) (tail : ℕ) (rows′
 pub record Number (p : Picture) (map : List ℕ) (r s x : ℕ) : Type 0 where
   pub way : Way
   pub tried : Tried p map r s way
-  pub number : x ≡ wayNumber p map (hueAt p (tried .codel)) s way
+  pub number : x ≡ wayNumber p map (codelColour p (tried .codel)) s way
 
 -- and what the attempt adds is marked
 pub record Settled (p : Picture) (map rows : List ℕ) (r s x : ℕ) : Type 0 where

@@ -4,7 +4,7 @@ use mathlib.Core.List.{List}
 use Prim.Native.Nat.{ℕ, _*_, _/_, _%_, _<_, _≤_}
 use lib.ListN.{length, getD, replicate}
 use Rattle.cfg.specs.Nodes.{Tried, wayNumber, Node}
-use Rattle.picture.specs.Picture.{Picture, colsOf, codels, hueAt}
+use Rattle.picture.specs.Picture.{Picture, colsOf, codels, codelColour}
 use Rattle.table.specs.Layout.{colourField, sizeField, rowField, columnField, markField, rowCell, exitCell, rowsRoom, exitsRoom}
 use Rattle.region.specs.Grid.{gridOf}
 use Rattle.region.specs.Region.{IsMap}
@@ -22,7 +22,7 @@ pub data Marks (A : Type 0) : ℕ → Type 0 where
 pub record Row (p : Picture) (map rows : List ℕ) (r : ℕ) : Type 0 where
   pub first : ℕ
   pub is-first : First map (codels p) r first
-  pub colour : getD rows (rowCell r colourField) 0 ≡ hueAt p first
+  pub colour : getD rows (rowCell r colourField) 0 ≡ codelColour p first
   pub size : getD rows (rowCell r sizeField) 0 ≡ tally r (codels p) map
   pub row : getD rows (rowCell r rowField) 0 ≡ first / colsOf p * p .codel
   pub column : getD rows (rowCell r columnField) 0 ≡ first % colsOf p * p .codel
@@ -30,7 +30,7 @@ pub record Row (p : Picture) (map rows : List ℕ) (r : ℕ) : Type 0 where
 
 -- region r's exit in state s: "0 where the row is no node or the attempt is not open", else its number
 pub data Exit (p : Picture) (map : List ℕ) (r s : ℕ) : ℕ → Type 0 where
-  node : {w : Way} → Node p map r → (t : Tried p map r s w) → Exit p map r s (wayNumber p map (hueAt p (t .codel)) s w)
+  node : {w : Way} → Node p map r → (t : Tried p map r s w) → Exit p map r s (wayNumber p map (codelColour p (t .codel)) s w)
   no-node : (Node p map r → ⊥) → Exit p map r s 0
 
 -- the whole table of n regions, in the room that it needs; the work slice is left 0

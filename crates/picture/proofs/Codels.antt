@@ -7,7 +7,7 @@ use lib.Arith.{digits-div, digits-mod, digits-lt}
 use lib.ListN.{length}
 use mathlib.Core.List.{List}
 use Rattle.picture.specs.declared.shape.Shape.{Shape}
-use Rattle.picture.specs.Picture.{Picture, rowsOf, colsOf, codels, Inside, indexOf, hueAt, Sound, shapeOf, pictureOf, Frames}
+use Rattle.picture.specs.Picture.{Picture, rowsOf, colsOf, codels, Inside, indexOf, codelColour, Sound, shapeOf, pictureOf, Frames}
 use Rattle.picture.proofs.Sizes.{side-pos, corner-in}
 
 -- the index of a codel is in the grid, and gives its row and column back

@@ -42,8 +42,8 @@ abbrev pub indexOf : Picture → ℕ → ℕ → ℕ
 indexOf p r c = r * colsOf p + c
 
 -- the colour of the codel with an index
-abbrev pub hueAt : Picture → ℕ → ℕ
-hueAt p i = colourAt p (i / colsOf p) (i % colsOf p)
+abbrev pub codelColour : Picture → ℕ → ℕ
+codelColour p i = colourAt p (i / colsOf p) (i % colsOf p)
 
 -- what building's refusals 1, 6, 7 and 2 leave: sides and codel within bounds, not too many codels, a colour for each pixel
 pub record Sound (p : Picture) : Type 0 where

@@ -12,7 +12,7 @@ use Rattle.flow.specs.declared.PointerState.{PointerState}
 use Rattle.flow.specs.Pointer.{Valid, numberOf, ofNumber, attemptOf}
 use Rattle.flow.proofs.Order.{of-number, number-small, valid-number, valid-attempt}
 use Rattle.piet.specs.Moves.{Opens, beside, across, Shut, FirstOpen, NoneOpen}
-use Rattle.picture.specs.Picture.{Picture, Inside, codels, hueAt, indexOf, Sound}
+use Rattle.picture.specs.Picture.{Picture, Inside, codels, codelColour, indexOf, Sound}
 use Rattle.picture.proofs.Codels.{cols-pos, index-in, inside-of}
 use Rattle.table.specs.Layout.{rowCell, sizeField, exitCell}
 use Rattle.table.specs.ExitNumber.{exitNumber, targetOf, instructionOf}
@@ -31,7 +31,8 @@ use Rattle.region.specs.Grid.{gridOf}
 use Rattle.region.proofs.MapLaws.{map-few}
 use Rattle.interpreter.specs.Table.{tried, openFrom, exitOf, pointersOf}
 
-clash : {A : Type 0} → _≡_ {A = ℕ} 0 1 → A
+-- two constructors that are equal
+pub clash : {A : Type 0} → _≡_ {A = ℕ} 0 1 → A
 clash e = absurd (no e)
   where
     no : _≡_ {A = ℕ} 0 1 → ⊥
@@ -113,9 +114,9 @@ module _ {p : Picture} {map rows exits : List ℕ} {n : ℕ} (S : Sound p) (B : 
 
   -- what an exit of a node says
   by-way : {r : ℕ} {q : PointerState} (w : Way) → Valid q → (t : Tried p map r (numberOf q) w)
-      → ((wayNumber p map (hueAt p (t .codel)) (numberOf q) w ≡ 0) ⊎ Leads p map n (wayNumber p map (hueAt p (t .codel)) (numberOf q) w))
-      → ((wayNumber p map (hueAt p (t .codel)) (numberOf q) w ≡ 0) × Shut p map r q)
-      ⊎ Leaves-by r q (wayNumber p map (hueAt p (t .codel)) (numberOf q) w)
+      → ((wayNumber p map (codelColour p (t .codel)) (numberOf q) w ≡ 0) ⊎ Leads p map n (wayNumber p map (codelColour p (t .codel)) (numberOf q) w))
+      → ((wayNumber p map (codelColour p (t .codel)) (numberOf q) w ≡ 0) × Shut p map r q)
+      ⊎ Leaves-by r q (wayNumber p map (codelColour p (t .codel)) (numberOf q) w)
   unfolding wayNumber
   by-way Closed v t l = inl (refl, shut-closed v t)
   by-way (Astray a b) v t l = inl (refl, shut-astray v t)

@@ -12,8 +12,8 @@ use lib.ListN.{length, getD, take, length-take}
 use lib.Seq.{getD-take}
 use Rattle.base.specs.Numbers.{numbers}
 use Rattle.base.proofs.Refusals.{passed}
-use Rattle.machine.specs.Held.{Lent, stackRoom, outRoom}
-use Rattle.piet.specs.Follows.{Follows}
+use Rattle.machine.specs.Held.{Lent, lent, stackRoom, outRoom}
+use Rattle.piet.specs.Follows.{Given, Follows}
 use Rattle.colour.specs.Palette.{white}
 use Rattle.picture.specs.Picture.{Picture, codels, Sound}
 use Rattle.picture.proofs.Codels.{first-in}
@@ -32,7 +32,7 @@ use Rattle.interpreter.specs.declared.Ran.{Ran}
 use Rattle.interpreter.specs.declared.Ran.the-variants.{Finished}
 use Rattle.interpreter.specs.Table.{any, wrongMark, wrongExit, validOf, markOf}
 use Rattle.interpreter.specs.Run.{End, runOf, start}
-use Rattle.interpreter.specs.Outcome.{Outcome, outcome, outcomeOf, endedOf, jobOf}
+use Rattle.interpreter.specs.Outcome.{Outcome, outcome, outcomeOf, endedOf, lentOf, jobOf}
 use Rattle.piet.proofs.Bridge.{Tabled}
 use Rattle.piet.proofs.Following.{follows}
 
@@ -44,6 +44,10 @@ none-of f (suc k) h = rw (h k (omega arith), none-of f k (λ i l. h i (omega ari
 mark-small : {A : Type 0} {x : ℕ} → Marks A x → x ≤ 1
 mark-small (is a) = omega arith
 mark-small (none a) = omega arith
+
+-- what the run of a picture is given
+abbrev givenOf : Bool → List ℕ → Lent → Given
+givenOf mode input l = record { mode = mode; input = input; stackRoom = stackRoom l; outRoom = outRoom l }
 
 module _ {p : Picture} {map rows exits work map′ rows′ exits′ work′ : List ℕ} {n : ℕ} (S : Sound p)
     (R : rowsRoom (codels p) ≤ length rows′) (X : exitsRoom (codels p) ≤ length exits′)
@@ -110,12 +114,15 @@ module _ {p : Picture} {map rows exits work map′ rows′ exits′ work′ : Li
   -- a run of what was built is finished, and follows the picture
   pub run-follows : (getD (p .colours) 0 0 ≡ white → ⊥) → (limit : ℕ) (mode : Bool) (input : List ℕ) (l : Lent) {r : Ran} {stack : List ℤ} {kinds : List ℕ} {values : List ℤ}
       → outcome r stack kinds values ≡ outcomeOf n rows′ exits′ limit mode input l
-      → (e : End) × (r ≡ Finished (endedOf e)) × Follows p (take (codels p) map′) mode input (stackRoom l) (outRoom l) limit e
+      → (e : End) × (r ≡ Finished (endedOf e)) × Follows p (take (codels p) map′) (givenOf mode input l) limit e × (e .at .region < n)
+      × (lent stack kinds values ≡ lentOf l (e .at .store))
   run-follows entry limit mode input l {r} e =
-      let j = jobOf rows′ exits′ mode input l in (
-        runOf j limit start,
+      let f = follows S tabled (givenOf mode input l) entry limit in (
+        runOf (jobOf rows′ exits′ mode input l) limit start,
         ap (λ (o : Outcome). o .answer) (rw valid at e),
-        follows S tabled mode input (j .stackRoom) (j .outRoom) entry limit,
+        f .0,
+        f .1,
+        ap (λ (o : Outcome). o .slices) (rw valid at e),
       )
 
 -- what is built is not refused, so it does not begin white
@@ -135,7 +142,8 @@ pub picture-follows : {p : Picture} {map rows exits work map′ rows′ exits′
     → building.Outcome p map rows exits work (Done n) map′ rows′ exits′ work′
     → (limit : ℕ) (mode : Bool) (input : List ℕ) (l : Lent) {r : Ran} {stack : List ℤ} {kinds : List ℕ} {values : List ℤ}
     → outcome r stack kinds values ≡ outcomeOf n rows′ exits′ limit mode input l
-    → (e : End) × (r ≡ Finished (endedOf e)) × Follows p (take (codels p) map′) mode input (stackRoom l) (outRoom l) limit e
+    → (e : End) × (r ≡ Finished (endedOf e)) × Follows p (take (codels p) map′) (givenOf mode input l) limit e × (e .at .region < n)
+    × (lent stack kinds values ≡ lentOf l (e .at .store))
 picture-follows (building.refused k v e h) limit mode input l o = absurd (refused-done k _ v h)
   where
     refused-done : (k n : ℕ) (v : List ℕ) → numbers 0 (n ∷ 0 ∷ []) ≡ numbers (suc k) v → ⊥

@@ -24,25 +24,19 @@ use Rattle.machine.specs.Machine.{Store, Effect, does, bad-input, Out, keeps, s
 use Rattle.machine.specs.declared.Op.{Op}
 use Rattle.machine.specs.declared.Op.the-variants.{Nothing, Push as PushOp, Pop, Pair, Not, Ptr, Swi, Dup, Roll, CharIn, CharOut, IntIn, IntOut}
 use Rattle.piet.specs.Moves.{FirstOpen, NoneOpen}
-use Rattle.piet.specs.Follows.{Move, Walk, starts, moves, Barred, Follows}
+use Rattle.piet.specs.Follows.{Given, Move, doing, Walk, starts, moves, Barred, Follows}
 use Rattle.colour.specs.Palette.{white}
-use Rattle.picture.specs.Picture.{Picture, colsOf, codels, hueAt, Sound}
+use Rattle.picture.specs.Picture.{Picture, colsOf, codels, codelColour, Sound}
 use Rattle.picture.proofs.Codels.{first-in}
 use Rattle.table.specs.ExitNumber.{targetOf, instructionOf}
 use Rattle.region.specs.Tally.{tally}
 use Rattle.cfg.specs.Nodes.{Node, entry}
-use Rattle.cfg.proofs.NodeLaws.{joined-hue}
+use Rattle.cfg.proofs.NodeLaws.{joined-shade}
 use Rattle.region.specs.Grid.{gridOf}
 use Rattle.region.proofs.MapLaws.{map-low}
-use Rattle.interpreter.specs.Table.{exitOf, pointersOf, sizeOf, opOf}
-use Rattle.interpreter.specs.Run.{Job, Machine, start, halts, arrive, leave, stepOf, after, runOf}
-use Rattle.piet.proofs.Bridge.{Tabled, Taken, none, some, taken}
-
-clash : {A : Type 0} → _≡_ {A = ℕ} 0 1 → A
-clash e = absurd (no e)
-  where
-    no : _≡_ {A = ℕ} 0 1 → ⊥
-    no e = omega arith
+use Rattle.interpreter.specs.Table.{exitOf, pointersOf}
+use Rattle.interpreter.specs.Run.{Job, Machine, End, start, halts, effectOf, arrive, leave, stepOf, after, runOf}
+use Rattle.piet.proofs.Bridge.{clash, Tabled, Taken, none, some, taken}
 
 -- ---- an instruction keeps the pointers a state
 
@@ -97,6 +91,12 @@ kept a b (does m) {s} h = first (ltb a (length (m .stack))) h
     first true h = clash (cc)
     first false h = second (ltb b (length (m .outs))) h
 
+-- a move that is kept keeps the pointers a state
+pub keeps-valid : (p : Picture) (map : List ℕ) (g : Given) (r : ℕ) (u : PointerState) (i : ℕ) (m : Store) {m′ : Store} → doing p map g r u i m ≡ keeps m′
+    → Valid u → Valid (m′ .pointers)
+keeps-valid p map g r u i m h v =
+    subst Holds (kept _ _ _ h) (executing (g .mode) (g .input) (tally r (codels p) map) (numbered i) (withPointers u m) v)
+
 -- the stops of a step that is not kept
 data Unkept : Stop → Type 0 where
   bad : Unkept BadInput
@@ -131,34 +131,41 @@ no-wait bad h = clash (cc)
 no-wait stack h = clash (cc)
 no-wait output h = clash (cc)
 
-module _ {p : Picture} {map rows exits : List ℕ} {n : ℕ} (S : Sound p) (B : Tabled p map rows exits n) (mode : Bool) (input : List ℕ) (a b : ℕ) where
+module _ {p : Picture} {map rows exits : List ℕ} {n : ℕ} (S : Sound p) (B : Tabled p map rows exits n) (g : Given) where
   abbrev job : Job
-  job = record { rows = rows; exits = exits; mode = mode; input = input; stackRoom = a; outRoom = b }
+  job = record { rows = rows; exits = exits; mode = g .mode; input = g .input; stackRoom = g .stackRoom; outRoom = g .outRoom }
 
   -- none of the eight is open, and one is
   both : {r target i : ℕ} {q u : PointerState} → NoneOpen p map r q → FirstOpen p map r q target u i → ⊥
   both N F = N .all (F .attempt) (F .few) .never _ _ _ (F .opens)
 
+  -- a run follows the picture and ends at a region that is numbered
+  abbrev Ends : ℕ → End → Type 0
+  Ends limit e = Follows p map g limit e × (e .at .region < n)
+
   -- what is known where a run stands, on the way to a limit, gives the rest of it
   abbrev On : ℕ → ℕ → Type 0
   On limit left =
-      (m : Machine) (history : List Move) → Walk p map mode input history (m .region) (m .store) → m .steps ≡ length history → Node p map (m .region)
-      → m .region < n → Valid (m .store .pointers) → m .steps + left ≡ limit → Follows p map mode input a b limit (runOf job left m)
+      (m : Machine) (history : List Move) → Walk p map g history (m .region) (m .store) → m .steps ≡ length history → Node p map (m .region)
+      → m .region < n → Valid (m .store .pointers) → m .steps + left ≡ limit → Ends limit (runOf job left m)
 
-  follows-from : (left : ℕ) (m : Machine) (history : List Move) (limit : ℕ) → Walk p map mode input history (m .region) (m .store)
+  follows-from : (left : ℕ) (m : Machine) (history : List Move) (limit : ℕ) → Walk p map g history (m .region) (m .store)
       → m .steps ≡ length history → Node p map (m .region) → m .region < n → Valid (m .store .pointers) → m .steps + left ≡ limit
-      → Follows p map mode input a b limit (runOf job left m)
+      → Ends limit (runOf job left m)
   unfolding runOf after arrive
-  follows-from zero m history limit w c N l v e = record {
-    history = history;
-    walk = w;
-    counted = c;
-    within = omega arith;
-    limited = (λ h. omega arith, λ h. refl);
-    awaited = (λ h. clash (cc), λ h. absurd (late (h .0)));
-    completed = (λ h. clash (cc), λ h. absurd (late (h .0)));
-    barred = λ h. absurd (h refl);
-  }
+  follows-from zero m history limit w c N l v e = (
+    record {
+      history = history;
+      walk = w;
+      counted = c;
+      within = omega arith;
+      limited = (λ h. omega arith, λ h. refl);
+      awaited = (λ h. clash (cc), λ h. absurd (late (h .0)));
+      completed = (λ h. clash (cc), λ h. absurd (late (h .0)));
+      barred = λ h. absurd (h refl);
+    },
+    l,
+  )
     where
       late : m .steps < limit → ⊥
       late h = omega arith
@@ -173,81 +180,80 @@ module _ {p : Picture} {map rows exits : List ℕ} {n : ℕ} (S : Sound p) (B : 
 
       here : (s : Stop) → (s ≡ MaxSteps → ⊥) → ((s ≡ NeedsInput) ↔ (m .store .awaiting ≡ true))
           → ((s ≡ Completed) ↔ ((m .store .awaiting ≡ false) × NoneOpen p map (m .region) (m .store .pointers)))
-          → ((s ≡ NeedsInput → ⊥) → (s ≡ Completed → ⊥) → Barred p map mode input a b (m .region) (m .store) s)
-          → Follows p map mode input a b limit (record { stop = s; at = m })
-      here s x i j k = record {
-        history = history;
-        walk = w;
-        counted = c;
-        within = omega arith;
-        limited = (λ h. absurd (x h), λ h. absurd (short h));
-        awaited = (λ h. (below, i .0 h), λ h. i .1 (h .1));
-        completed = (λ h. (below, j .0 h .0, j .0 h .1), λ h. j .1 (h .1, h .2));
-        barred = λ g. k;
-      }
+          → ((s ≡ NeedsInput → ⊥) → (s ≡ Completed → ⊥) → Barred p map g (m .region) (m .store) s)
+          → Ends limit (record { stop = s; at = m })
+      here s x i j k = (
+        record {
+          history = history;
+          walk = w;
+          counted = c;
+          within = omega arith;
+          limited = (λ h. absurd (x h), λ h. absurd (short h));
+          awaited = (λ h. (below, i .0 h), λ h. i .1 (h .1));
+          completed = (λ h. (below, j .0 h .0, j .0 h .1), λ h. j .1 (h .1, h .2));
+          barred = λ y. k;
+        },
+        l,
+      )
 
       arrives : On limit left → m .store .awaiting ≡ false → (x : ℕ) → FirstOpen p map (m .region) (m .store .pointers) (targetOf x) (pointersOf x) (instructionOf x) → Node p map (targetOf x) → targetOf x < n
           → Valid (pointersOf x) → (o : Out)
-          → fitting a b (exec mode input (sizeOf rows (m .region)) (opOf x) (withPointers (pointersOf x) (m .store))) ≡ o
-          → Follows p map mode input a b limit (after (runOf job left) m (arrive x m o))
+          → fitting (g .stackRoom) (g .outRoom) (effectOf job x m) ≡ o
+          → Ends limit (after (runOf job left) m (arrive x m o))
       arrives on f x F M t u (stops s) h =
-          let k = unkept a b _ h in
-          let z : fitting a b (exec mode input (tally (m .region) (codels p) map) (numbered (instructionOf x)) (withPointers (pointersOf x) (m .store))) ≡ stops s =
-          rw (B .size (m .region) l) at h in
+          let k = unkept (g .stackRoom) (g .outRoom) _ h in
+          let z : doing p map g (m .region) (pointersOf x) (instructionOf x) (m .store) ≡ stops s = rw (B .size (m .region) l) at h in
           here s (no-limit k)
           (λ q. absurd (no-wait k q), λ q. absurd (true≢false (sym q ∙ f)))
           (λ q. absurd (no-completed k q), λ q. absurd (both (q .1) F))
-          (λ g g′. record { target = targetOf x; pointers = pointersOf x; instruction = instructionOf x; next = F; unkept = z })
+          (λ y y′. record { target = targetOf x; pointers = pointersOf x; instruction = instructionOf x; next = F; unkept = z })
       arrives on f x F M t u (keeps s) h =
-          let d = kept a b _ h in
-          let z : exec mode input (tally (m .region) (codels p) map) (numbered (instructionOf x)) (withPointers (pointersOf x) (m .store)) ≡ does s =
-          rw (B .size (m .region) l) at d in
-          let q : Valid (s .pointers) = subst Holds d (executing mode input (sizeOf rows (m .region)) (opOf x) (withPointers (pointersOf x) (m .store)) u) in
+          let z : doing p map g (m .region) (pointersOf x) (instructionOf x) (m .store) ≡ keeps s = rw (B .size (m .region) l) at h in
           on (record { region = targetOf x; steps = m .steps + 1; store = s })
           (record { from = m .region; to = targetOf x; pointers = pointersOf x; instruction = instructionOf x } ∷ history)
-          (moves w F z)
+          (moves w f F z)
           (omega arith)
           M
           t
-          q
+          (keeps-valid p map g (m .region) (pointersOf x) (instructionOf x) (m .store) z u)
           (omega arith)
 
       leaves : On limit left → Taken S B (m .region) (m .store .pointers) (exitOf exits (m .region) (m .store .pointers)) → m .store .awaiting ≡ false
-          → Follows p map mode input a b limit (after (runOf job left) m (leave job (exitOf exits (m .region) (m .store .pointers)) m))
+          → Ends limit (after (runOf job left) m (leave job (exitOf exits (m .region) (m .store .pointers)) m))
       leaves on (none z shut) f = rw (eq-eqb (exitOf exits (m .region) (m .store .pointers)) 0 z)
           (here Completed (λ h. clash (cc)) (λ h. clash (cc), λ h. absurd (true≢false (sym h ∙ f))) (λ h. (f, shut), λ h. refl)
-          (λ g g′. absurd (g′ refl)))
+          (λ y y′. absurd (y′ refl)))
       leaves on (some d F M t u) f =
           rw (ne-eqb (exitOf exits (m .region) (m .store .pointers)) 0 d)
           (arrives on f (exitOf exits (m .region) (m .store .pointers)) F M t u
-          (fitting a b (exec mode input (sizeOf rows (m .region)) (opOf (exitOf exits (m .region) (m .store .pointers))) (withPointers (pointersOf (exitOf exits (m .region) (m .store .pointers))) (m .store))))
+          (fitting (g .stackRoom) (g .outRoom) (effectOf job (exitOf exits (m .region) (m .store .pointers)) m))
           refl)
 
       Stepped : Bool → Type 0
       Stepped t =
-          Follows p map mode input a b limit (after (runOf job left) m (cond t (halts NeedsInput) (leave job (exitOf exits (m .region) (m .store .pointers)) m)))
+          Ends limit (after (runOf job left) m (cond t (halts NeedsInput) (leave job (exitOf exits (m .region) (m .store .pointers)) m)))
 
-      awaited : On limit left → (t : Bool) → m .store .awaiting ≡ t → Follows p map mode input a b limit (after (runOf job left) m (stepOf job m))
+      awaited : On limit left → (t : Bool) → m .store .awaiting ≡ t → Ends limit (after (runOf job left) m (stepOf job m))
       awaited on true f = subst Stepped (sym f)
           (here NeedsInput (λ h. clash (cc)) (λ h. f, λ h. refl) (λ h. clash (cc), λ h. absurd (true≢false (sym f ∙ h .0)))
-          (λ g g′. absurd (g refl)))
+          (λ y y′. absurd (y refl)))
       awaited on false f = subst Stepped (sym f) (leaves on (taken S B (m .region) (m .store .pointers) l v N) f)
 
   -- region 0 is a node where the picture does not begin white
   entry-node : (getD (p .colours) 0 0 ≡ white → ⊥) → Node p map 0
   entry-node W = record {
     found = entry;
-    coloured = λ w. W (first-hue ∙ joined-hue (B .regions .apart 0 (w .codel) (first-in S) (w .inside) (first-zero ∙ sym (w .own))) ∙ w .hue);
+    coloured = λ w. W (first-shade ∙ joined-shade (B .regions .apart 0 (w .codel) (first-in S) (w .inside) (first-zero ∙ sym (w .own))) ∙ w .shade);
   }
     where
       first-zero : getD map 0 0 ≡ 0
       first-zero = omega (arith, map-low (gridOf p) map n (B .regions) 0 (first-in S))
 
-      first-hue : getD (p .colours) 0 0 ≡ hueAt p 0
-      first-hue = rw (zero-div (colsOf p), zero-mod (colsOf p), zero-mul (p .codel), zero-mul (p .width))
+      first-shade : getD (p .colours) 0 0 ≡ codelColour p 0
+      first-shade = rw (zero-div (colsOf p), zero-mod (colsOf p), zero-mul (p .codel), zero-mul (p .width))
 
   -- the run from the start follows the picture
-  pub follows : (getD (p .colours) 0 0 ≡ white → ⊥) → (limit : ℕ) → Follows p map mode input a b limit (runOf job limit start)
+  pub follows : (getD (p .colours) 0 0 ≡ white → ⊥) → (limit : ℕ) → Ends limit (runOf job limit start)
   follows W limit =
       follows-from limit start [] limit starts refl (entry-node W) (some-region (first-in S)) (record { dp = omega arith; cc = omega arith }) (zero-add limit)
     where

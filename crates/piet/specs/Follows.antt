@@ -9,11 +9,18 @@ use lib.ListN.{length}
 use Rattle.flow.specs.declared.PointerState.{PointerState}
 use Rattle.machine.specs.declared.Stop.{Stop}
 use Rattle.machine.specs.declared.Stop.the-variants.{Completed, MaxSteps, NeedsInput}
-use Rattle.machine.specs.Machine.{Store, numbered, exec, does, withPointers, fitting, stops}
+use Rattle.machine.specs.Machine.{Store, Out, keeps, stops, numbered, exec, withPointers, fitting}
 use Rattle.piet.specs.Moves.{FirstOpen, NoneOpen}
 use Rattle.picture.specs.Picture.{Picture, codels}
 use Rattle.region.specs.Tally.{tally}
 use Rattle.interpreter.specs.Run.{start, End}
+
+-- what a run of a picture is given besides: the mode, the input, and the room of the stack and of the outputs
+pub record Given : Type 0 where
+  pub mode : Bool
+  pub input : List ℕ
+  pub stackRoom : ℕ
+  pub outRoom : ℕ
 
 -- one move: the region left, the region reached, the pointers that the way gives, and the instruction
 pub record Move : Type 0 where
@@ -22,36 +29,43 @@ pub record Move : Type 0 where
   pub pointers : PointerState
   pub instruction : ℕ
 
--- `Walk .. history r m`: after these moves, the latest first, the run stands at region r with the store m. It starts at
--- region 0 with dp right and cc left and nothing else; each move is the first open one of the eight attempts from the
--- pointers then held, and its instruction is executed with the size of the block just left.
-pub data Walk (p : Picture) (map : List ℕ) (mode : Bool) (input : List ℕ) : List Move → ℕ → Store → Type 0 where
-  starts : Walk p map mode input [] 0 (start .store)
-  moves : {history : List Move} {r target i : ℕ} {m m′ : Store} {u : PointerState} → Walk p map mode input history r m
-      → FirstOpen p map r (m .pointers) target u i
-      → exec mode input (tally r (codels p) map) (numbered i) (withPointers u m) ≡ does m′
-      → Walk p map mode input (record { from = r; to = target; pointers = u; instruction = i } ∷ history) target m′
+module _ (p : Picture) (map : List ℕ) (g : Given) where
+  -- what the instruction of a move from region r comes to: it is executed "with the size of the block just left", and kept
+  -- where there is room
+  abbrev pub doing : ℕ → PointerState → ℕ → Store → Out
+  doing r u i m = fitting (g .stackRoom) (g .outRoom) (exec (g .mode) (g .input) (tally r (codels p) map) (numbered i) (withPointers u m))
 
--- the first open move is not taken: its instruction can't be kept in the room that is lent, and the run stops for s
-pub record Barred (p : Picture) (map : List ℕ) (mode : Bool) (input : List ℕ) (stackRoom outRoom r : ℕ) (m : Store) (s : Stop) : Type 0 where
-  pub target : ℕ
-  pub pointers : PointerState
-  pub instruction : ℕ
-  pub next : FirstOpen p map r (m .pointers) target pointers instruction
-  pub unkept : fitting stackRoom outRoom (exec mode input (tally r (codels p) map) (numbered instruction) (withPointers pointers m)) ≡ stops s
+  -- `Walk history r m`: after these moves, the latest first, the run stands at region r with the store m. It starts at
+  -- region 0 with dp right and cc left and nothing else; each move is the first open one of the eight attempts from the
+  -- pointers then held, made while no input is awaited, and its instruction is kept.
+  pub data Walk : List Move → ℕ → Store → Type 0 where
+    starts : Walk [] 0 (start .store)
+    moves : {history : List Move} {r target i : ℕ} {m m′ : Store} {u : PointerState} → Walk history r m
+        → m .awaiting ≡ false
+        → FirstOpen p map r (m .pointers) target u i
+        → doing r u i m ≡ keeps m′
+        → Walk (record { from = r; to = target; pointers = u; instruction = i } ∷ history) target m′
 
--- A run of a picture, in lent room and under a limit, ends in e: there is a history that leads to the region and the store
--- reported, its pointers included; its length is the steps reported; and it stops for the reason reported and for no other:
--- "steps equal to the limit, status 2"; "in abstract mode after an input instruction, 3"; "no open attempt, 1"; else the
--- next move can't be kept.
-pub record Follows (p : Picture) (map : List ℕ) (mode : Bool) (input : List ℕ) (stackRoom outRoom limit : ℕ) (e : End) : Type 0 where
-  pub history : List Move
-  pub walk : Walk p map mode input history (e .at .region) (e .at .store)
-  pub counted : e .at .steps ≡ length history
-  pub within : e .at .steps ≤ limit
-  pub limited : (e .stop ≡ MaxSteps) ↔ (e .at .steps ≡ limit)
-  pub awaited : (e .stop ≡ NeedsInput) ↔ ((e .at .steps < limit) × (e .at .store .awaiting ≡ true))
-  pub completed : (e .stop ≡ Completed)
-      ↔ ((e .at .steps < limit) × (e .at .store .awaiting ≡ false) × NoneOpen p map (e .at .region) (e .at .store .pointers))
-  pub barred : (e .stop ≡ MaxSteps → ⊥) → (e .stop ≡ NeedsInput → ⊥) → (e .stop ≡ Completed → ⊥)
-      → Barred p map mode input stackRoom outRoom (e .at .region) (e .at .store) (e .stop)
+  -- the first open move is not taken: its instruction can't be kept in the room that is lent, and the run stops for s
+  pub record Barred (r : ℕ) (m : Store) (s : Stop) : Type 0 where
+    pub target : ℕ
+    pub pointers : PointerState
+    pub instruction : ℕ
+    pub next : FirstOpen p map r (m .pointers) target pointers instruction
+    pub unkept : doing r pointers instruction m ≡ stops s
+
+  -- A run of a picture under a limit ends in e: there is a history that leads to the region and the store reported, its
+  -- pointers included; its length is the steps reported; and it stops for the reason reported and for no other: "steps
+  -- equal to the limit, status 2"; "in abstract mode after an input instruction, 3"; "no open attempt, 1"; else the next
+  -- move can't be kept.
+  pub record Follows (limit : ℕ) (e : End) : Type 0 where
+    pub history : List Move
+    pub walk : Walk history (e .at .region) (e .at .store)
+    pub counted : e .at .steps ≡ length history
+    pub within : e .at .steps ≤ limit
+    pub limited : (e .stop ≡ MaxSteps) ↔ (e .at .steps ≡ limit)
+    pub awaited : (e .stop ≡ NeedsInput) ↔ ((e .at .steps < limit) × (e .at .store .awaiting ≡ true))
+    pub completed : (e .stop ≡ Completed)
+        ↔ ((e .at .steps < limit) × (e .at .store .awaiting ≡ false) × NoneOpen p map (e .at .region) (e .at .store .pointers))
+    pub barred : (e .stop ≡ MaxSteps → ⊥) → (e .stop ≡ NeedsInput → ⊥) → (e .stop ≡ Completed → ⊥)
+        → Barred (e .at .region) (e .at .store) (e .stop)

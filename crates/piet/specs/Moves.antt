@@ -6,7 +6,7 @@ use Rattle.flow.specs.declared.PointerState.{PointerState}
 use Rattle.flow.specs.Pointer.{numberOf, attemptOf}
 use Rattle.colour.specs.Instruction.{none}
 use Rattle.colour.specs.Decode.{decodeOf}
-use Rattle.picture.specs.Picture.{Picture, colourAt, hueAt}
+use Rattle.picture.specs.Picture.{Picture, colourAt, codelColour}
 use Rattle.exit.specs.declared.attempt.Way.the-variants.{Step, Glide}
 use Rattle.cfg.specs.Nodes.{Tried, regionAt}
 
@@ -15,7 +15,7 @@ use Rattle.cfg.specs.Nodes.{Tried, regionAt}
 pub data Opens (p : Picture) (map : List ℕ) (r : ℕ) (q : PointerState) : ℕ → PointerState → ℕ → Type 0 where
   -- "A coloured boundary gives its region, the same state and the decoded instruction"
   beside : {a b : ℕ} (t : Tried p map r (numberOf q) (Step a b))
-      → Opens p map r q (regionAt p map a b) q (decodeOf (hueAt p (t .codel)) (colourAt p a b))
+      → Opens p map r q (regionAt p map a b) q (decodeOf (codelColour p (t .codel)) (colourAt p a b))
   -- a slide that stops "gives that region, the present state and no instruction"
   across : {a b c d : ℕ} {u : PointerState} → Tried p map r (numberOf q) (Glide a b c d u)
       → Opens p map r q (regionAt p map c d) u none

@@ -103,7 +103,7 @@ module _ (g : Grid) (seed k : ℕ) (m₀ w₀ : List ℕ) (p : Part g seed k m�
       got j l a = record {
         was = had-none j l (a .was);
         is = a .is;
-        path = on (path (getD w h 0) (f .queue h more .0) (f .queue h more .1)) (a .next) (a .hue);
+        path = on (path (getD w h 0) (f .queue h more .0) (f .queue h more .1)) (a .next) (a .shade);
       }
 
       cells : (j : ℕ) → j < count g → (getD m′ j 0 ≡ getD m₀ j 0) ⊎ Got g seed k m₀ m′ j
@@ -129,12 +129,12 @@ module _ (g : Grid) (seed k : ℕ) (m₀ w₀ : List ℕ) (p : Part g seed k m�
           by-cases (ℕ-discrete (q .0) h)
           (λ here.
           let at : getD w h 0 ≡ j = sym (ap (λ (x : ℕ). getD w x 0) here) ∙ q .3 in
-          inr (λ i n hue.
+          inr (λ i n shade.
           s .reach (n .way) (four (g .cols) (n .way) j i (n .toward)) i (n .to)
           (subst (λ (x : ℕ). Toward (g .cols) (n .way) x i) (sym at) (n .toward))
-          (ap (g .colour) at ∙ hue)))
+          (ap (g .colour) at ∙ shade)))
           (λ other. inl (q .0, omega (arith, q .1), omega (arith, q .2, s .on), s .old (q .0) (q .2) ∙ q .3)))
-          (λ d. inr (λ i n hue. some i (n .to) (d i n hue)))
+          (λ d. inr (λ i n shade. some i (n .to) (d i n shade)))
           (f .done j l (sym a ∙ e)))
           (λ a. inl (a .at, omega (arith, a .from), a .until, a .stands))
           (s .cells j l)
@@ -157,22 +157,22 @@ module _ (g : Grid) (seed k : ℕ) (m₀ w₀ : List ℕ) (p : Part g seed k m�
     module _ (empty : t ≤ h) where
       -- the neighbours of a new codel that have its colour are new
       spread : (j l : ℕ) → Next g j l → g .colour j ≡ g .colour l → Got g seed k m₀ m j → getD m j 0 ≡ getD m l 0
-      spread j l n hue a =
-          let some : getD m l 0 ≢ mark = ⊎-elim (λ q. absurd (omega (arith, q .1, q .2))) (λ d. d l n hue) (f .done j (n .from) (a .is)) in
+      spread j l n shade a =
+          let some : getD m l 0 ≢ mark = ⊎-elim (λ q. absurd (omega (arith, q .1, q .2))) (λ d. d l n shade) (f .done j (n .from) (a .is)) in
           ⊎-elim
-          (λ e. absurd (some (e ∙ sym (p .even j l n hue) ∙ a .was)))
+          (λ e. absurd (some (e ∙ sym (p .even j l n shade) ∙ a .was)))
           (λ b. a .is ∙ sym (b .is))
           (f .cells l (n .to))
 
       even : (j l : ℕ) → Next g j l → g .colour j ≡ g .colour l → getD m j 0 ≡ getD m l 0
-      even j l n hue =
+      even j l n shade =
           ⊎-elim
           (λ a.
           ⊎-elim
-          (λ b. a ∙ p .even j l n hue ∙ sym b)
-          (λ b. sym (spread l j (next-back n) (sym hue) b))
+          (λ b. a ∙ p .even j l n shade ∙ sym b)
+          (λ b. sym (spread l j (next-back n) (sym shade) b))
           (f .cells l (n .to)))
-          (λ a. spread j l n hue a)
+          (λ a. spread j l n shade a)
           (f .cells j (n .from))
 
       one : (j l : ℕ) → j < count g → l < count g → getD m j 0 ≢ mark → getD m j 0 ≡ getD m l 0 → Joined g j l

@@ -38,13 +38,13 @@ module _ {g : Grid} {k i d : ℕ} {m w : List ℕ} {t : ℕ} {m′ w′ : List �
     cells = s .cells;
     old = s .old;
     new = s .new;
-    reach = λ e h l inside toward hue free.
+    reach = λ e h l inside toward shade free.
         by-cases (decLt e d)
-        (λ below. s .reach e below l inside toward hue free)
+        (λ below. s .reach e below l inside toward shade free)
         (λ last.
         let same : e ≡ d = omega arith in
         let at : l ≡ j = n .only l inside (subst (λ (x : ℕ). Toward (g .cols) x i l) same toward) in
-        none (subst (λ (x : ℕ). x < count g) at inside) (ap (λ (x : ℕ). getD m′ x 0) (sym at) ∙ free) (ap (g .colour) (sym at) ∙ sym hue));
+        none (subst (λ (x : ℕ). x < count g) at inside) (ap (λ (x : ℕ). getD m′ x 0) (sym at) ∙ free) (ap (g .colour) (sym at) ∙ sym shade));
     room = s .room;
     map-length = s .map-length;
     work-length = s .work-length;
@@ -53,7 +53,7 @@ module _ {g : Grid} {k i d : ℕ} {m w : List ℕ} {t : ℕ} {m′ w′ : List �
   }
 
   -- codel j is numbered and queued
-  module _ (fresh : k ≢ mark) (from : i < count g) (long : count g ≤ length m) (wide : count g ≤ length w) (inside : j < count g) (free : getD m′ j 0 ≡ mark) (hue : g .colour j ≡ g .colour i) where
+  module _ (fresh : k ≢ mark) (from : i < count g) (long : count g ≤ length m) (wide : count g ≤ length w) (inside : j < count g) (free : getD m′ j 0 ≡ mark) (shade : g .colour j ≡ g .colour i) where
     here : j < length m′
     here = omega (arith, s .map-length)
 
@@ -72,7 +72,7 @@ module _ {g : Grid} {k i d : ℕ} {m w : List ℕ} {t : ℕ} {m′ w′ : List �
       was = was;
       is = getD-set-same m′ j k 0 here;
       next = record { from = from; to = inside; way = d; toward = n .is inside };
-      hue = sym hue;
+      shade = sym shade;
       at = t′;
       from = s .on;
       until = omega arith;
@@ -84,7 +84,7 @@ module _ {g : Grid} {k i d : ℕ} {m w : List ℕ} {t : ℕ} {m′ w′ : List �
       was = n .was;
       is = getD-set-other m′ j l k 0 other ∙ n .is;
       next = n .next;
-      hue = n .hue;
+      shade = n .shade;
       at = n .at;
       from = n .from;
       until = omega (arith, n .until);
@@ -134,9 +134,9 @@ module _ {g : Grid} {k i d : ℕ} {m w : List ℕ} {t : ℕ} {m′ w′ : List �
       work-rest = drop-set-lt (count g) w′ t′ j there ∙ s .work-rest;
     }
 
-pub spread-more : {g : Grid} {k i d : ℕ} {m w : List ℕ} {t : ℕ} {m′ w′ : List ℕ} {t′ j hue : ℕ} {m″ w″ : List ℕ} {t″ : ℕ}
+pub spread-more : {g : Grid} {k i d : ℕ} {m w : List ℕ} {t : ℕ} {m′ w′ : List ℕ} {t′ j shade : ℕ} {m″ w″ : List ℕ} {t″ : ℕ}
     → Spread g k i d m w t m′ w′ t′ → Neighbour (g .rows) (g .cols) d i j
-    → k ≢ mark → i < count g → count g ≤ length m → count g ≤ length w → hue ≡ g .colour i
-    → Visit g hue k j m′ w′ t′ m″ w″ t″ → Spread g k i (d + 1) m w t m″ w″ t″
+    → k ≢ mark → i < count g → count g ≤ length m → count g ≤ length w → shade ≡ g .colour i
+    → Visit g shade k j m′ w′ t′ m″ w″ t″ → Spread g k i (d + 1) m w t m″ w″ t″
 spread-more s n fresh from long wide same (pushed inside free e) = busy s n fresh from long wide inside free (e ∙ same)
 spread-more s n fresh from long wide same (kept none) = idle s n (λ inside free e. none inside free (e ∙ sym same))

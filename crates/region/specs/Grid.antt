@@ -4,7 +4,7 @@ use mathlib.Core.Path.{_≡_}
 use mathlib.Core.List.{List}
 use Prim.Native.Nat.{ℕ, zero, suc, _+_, _*_, _/_, _%_, _≤_, _<_}
 use Rattle.picture.specs.declared.shape.Shape.{Shape}
-use Rattle.picture.specs.Picture.{Picture, rowsOf, colsOf, colourAt, hueAt, pictureOf}
+use Rattle.picture.specs.Picture.{Picture, rowsOf, colsOf, colourAt, codelColour, pictureOf}
 
 pub record Grid : Type 0 where
   pub rows : ℕ
@@ -18,7 +18,7 @@ count g = g .rows * g .cols
 
 -- a picture's grid
 abbrev pub gridOf : Picture → Grid
-gridOf p = record { rows = rowsOf p; cols = colsOf p; colour = λ i. hueAt p i }
+gridOf p = record { rows = rowsOf p; cols = colsOf p; colour = λ i. codelColour p i }
 
 -- the same, by the numbers that the code carries beside the colours
 abbrev pub gridAt : List ℕ → Shape → Grid

@@ -19,17 +19,17 @@ mark = 65536
 abbrev pub vacant : ℕ → List ℕ → ℕ
 vacant n m = tally mark n m
 
--- codel j is numbered k and put at the queue's tail, where it is inside, has no number and has the colour hue
-pub data Visit (g : Grid) (hue k j : ℕ) (m w : List ℕ) (t : ℕ) : List ℕ → List ℕ → ℕ → Type 0 where
-  pushed : j < count g → getD m j 0 ≡ mark → g .colour j ≡ hue → Visit g hue k j m w t (set m j k) (set w t j) (t + 1)
-  kept : (j < count g → getD m j 0 ≡ mark → g .colour j ≡ hue → ⊥) → Visit g hue k j m w t m w t
+-- codel j is numbered k and put at the queue's tail, where it is inside, has no number and has the colour shade
+pub data Visit (g : Grid) (shade k j : ℕ) (m w : List ℕ) (t : ℕ) : List ℕ → List ℕ → ℕ → Type 0 where
+  pushed : j < count g → getD m j 0 ≡ mark → g .colour j ≡ shade → Visit g shade k j m w t (set m j k) (set w t j) (t + 1)
+  kept : (j < count g → getD m j 0 ≡ mark → g .colour j ≡ shade → ⊥) → Visit g shade k j m w t m w t
 
 -- a codel j next to i that has got the number k, and stands in the queue from t on
 pub record New (g : Grid) (k i : ℕ) (m : List ℕ) (t : ℕ) (m′ w′ : List ℕ) (t′ j : ℕ) : Type 0 where
   pub was : getD m j 0 ≡ mark
   pub is : getD m′ j 0 ≡ k
   pub next : Next g i j
-  pub hue : g .colour i ≡ g .colour j
+  pub shade : g .colour i ≡ g .colour j
   pub at : ℕ
   pub from : t ≤ at
   pub until : at < t′

@@ -13,11 +13,11 @@ ghost use Rattle.region.specs.Steps.{mark, vacant, Visit, Spread, Part, 
 pub const MARK: u32 = 65536;
 
 // Numbers codel j and puts it at the queue's tail, where it is inside, has no number and has the
-// colour hue. Returns the new tail.
+// colour shade. Returns the new tail.
 fn visit(
     colours: &[u8],
     s: Shape,
-    hue: u8,
+    shade: u8,
     number: u32,
     j: usize,
     map: &mut [u32],
@@ -26,7 +26,7 @@ fn visit(
 ) -> usize
     requires { ⌜ Room (now colours) s (now map) (now work) ⌝ }
     requires { ⌜ vacant (s .rows * s .cols) (now map) + tail ≤ s .rows * s .cols ⌝ }
-    ensures { λ r. ⌜ Visit (gridAt (now (colours .entry)) s) hue number j (now (map .entry)) (now (work .entry)) tail (now (map .exit)) (now (work .exit)) r ⌝ }
+    ensures { λ r. ⌜ Visit (gridAt (now (colours .entry)) s) shade number j (now (map .entry)) (now (work .entry)) tail (now (map .exit)) (now (work .exit)) r ⌝ }
 {
     let outside = s.rows * s.cols;
     if outside <= j {
@@ -35,7 +35,7 @@ fn visit(
     if map[j] != MARK {
         return tail;
     }
-    if codel_colour(colours, s, j) != hue {
+    if codel_colour(colours, s, j) != shade {
         return tail;
     }
     map[j] = number;
@@ -59,12 +59,12 @@ fn expand(
     requires { ⌜ number < mark ⌝ }
     ensures { λ r. ⌜ Spread (gridAt (now (colours .entry)) s) number i 4 (now (map .entry)) (now (work .entry)) tail (now (map .exit)) (now (work .exit)) r ⌝ }
 {
-    let hue = codel_colour(colours, s, i);
+    let shade = codel_colour(colours, s, i);
     let mut end = tail;
     let mut way = 0;
     while way < 4 {
         let j = neighbour(s, i, way);
-        end = visit(colours, s, hue, number, j, map, work, end);
+        end = visit(colours, s, shade, number, j, map, work, end);
         way += 1;
     }
     end

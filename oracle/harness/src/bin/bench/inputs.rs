@@ -60,6 +60,21 @@ fn much_white(random: &mut Random, side: usize) -> Vec<u8> {
     (0..side * side).map(codel).collect()
 }
 
+/// Pictures of 65,536 codels at the ends of what a picture can be; the Rust needs minutes for the first.
+pub fn extremes() -> Vec<(&'static str, Picture)> {
+    let side = 256;
+    let extremes: [(&str, fn(usize) -> u8); 3] = [
+        ("all codels apart", |at| ((at % 256 + 2 * (at / 256)) % 18) as u8),
+        ("one region", |_| 6),
+        ("a white field", |at| if at % 97 == 0 { (at % 18) as u8 } else { WHITE }),
+    ];
+    let picture = |codel: fn(usize) -> u8| {
+        let colours = (0..side * side).map(codel).collect();
+        Picture { height: side as u32, width: side as u32, codel: 1, colours }
+    };
+    extremes.into_iter().map(|(name, codel)| (name, picture(codel))).collect()
+}
+
 /// Square blocks of this size, each of one of these colours.
 fn blocks(random: &mut Random, side: usize, size: usize, colours: &[u8]) -> Vec<u8> {
     let across = side / size;

@@ -5,7 +5,7 @@ use harness::library::{self, Lent, Space, Table};
 use harness::machine::{self, Terms};
 use harness::picture::Picture;
 use image::Rgb;
-use inputs::{pixels, programs, textures};
+use inputs::{extremes, pixels, programs, textures};
 use parser::cfg::CFGBuilder;
 use parser::convert::{ConvertToLightness, UnknownPixelSettings::TreatAsError};
 use piet_core::color::Lightness;
@@ -25,6 +25,9 @@ fn main() {
     classify();
     for (name, side, picture) in textures() {
         build(name, side, &picture);
+    }
+    for (name, picture) in extremes() {
+        build_alone(name, &picture);
     }
     for (name, picture) in programs() {
         run(name, &picture);
@@ -70,6 +73,13 @@ fn build(name: &str, side: usize, picture: &Picture) {
     let ours = fastest(|| built(picture, &mut lent));
     let costs = [rust, ours].map(|seconds| 1e9 * seconds / (side * side) as f64);
     line(&format!("build, {name}, {side} x {side}"), "ns/codel", costs, rust / ours);
+}
+
+/// Ours alone.
+fn build_alone(name: &str, picture: &Picture) {
+    let mut lent = lent(picture.colours.len());
+    let ours = fastest(|| built(picture, &mut lent));
+    println!("{:58}{:>14.3}", format!("build, {name}, 256 x 256, ms"), 1e3 * ours);
 }
 
 fn lent(codels: usize) -> Lent {

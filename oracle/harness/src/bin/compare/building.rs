@@ -7,7 +7,7 @@ use harness::picture::{build, Built, Picture};
 use harness::random::Random;
 
 const SEED: u64 = 4;
-const BY_CHANCE: usize = 500_000;
+const BY_CHANCE: usize = 1_000_000;
 const LONGEST: u32 = 9;
 const FAR: [usize; 4] = [0, 1_025, (1 << 32) + 1, usize::MAX];
 

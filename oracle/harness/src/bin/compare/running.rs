@@ -9,7 +9,7 @@ use harness::question::Question;
 use harness::random::Random;
 
 const SEED: u64 = 6;
-const BY_CHANCE: usize = 500_000;
+const BY_CHANCE: usize = 2_000_000;
 const LONGEST: u32 = 8;
 
 #[derive(Clone)]
@@ -29,7 +29,7 @@ pub fn compare() -> Checked {
 fn by_chance(random: &mut Random) -> Running {
     let question = Question {
         picture: picture(random),
-        limit: random.below(100) as u64,
+        limit: limit(random),
         is_abstract: random.one_in(8),
         room: room(random),
         input: random.input(),
@@ -38,6 +38,12 @@ fn by_chance(random: &mut Random) -> Running {
     let longer = random.pick(&[[0, 0], [2, 0], [0, 3]]);
     let answer = if random.one_in(64) { random.below(8) } else { 8 + random.below(3) };
     Running { question, spoil, longer, answer: answer as usize }
+}
+
+/// Mostly small: a run that goes round has gone round by then.
+fn limit(random: &mut Random) -> u64 {
+    let bound = if random.one_in(32) { 4_000 } else { 100 };
+    random.below(bound) as u64
 }
 
 /// Of any kind, or one that runs a program.

@@ -2,6 +2,7 @@
 mod answers;
 mod jobs;
 mod pictures;
+mod programs;
 mod questions;
 mod records;
 
@@ -12,7 +13,8 @@ use std::io::{stdout, Write};
 use std::process::ExitCode;
 
 const USAGE: &str = "usage: replay pixels | replay colours | replay questions | replay lines FILE
-     | replay pictures | replay tables FILE | replay jobs | replay runs FILE";
+     | replay pictures | replay tables FILE | replay jobs | replay runs FILE
+     | replay programs | replay printed FILE";
 
 fn main() -> ExitCode {
     let arguments: Vec<String> = std::env::args().skip(1).collect();
@@ -26,6 +28,8 @@ fn main() -> ExitCode {
         ["tables", file] => tables(file).map(String::into_bytes),
         ["jobs"] => Ok(jobs::jobs().iter().flat_map(question_record).collect()),
         ["runs", file] => runs(file).map(String::into_bytes),
+        ["programs"] => Ok(programs::records()),
+        ["printed", file] => printed(file).map(String::into_bytes),
         _ => Err(USAGE.into()),
     };
     match written.and_then(|bytes| stdout().write_all(&bytes).map_err(|e| e.to_string())) {
@@ -83,6 +87,10 @@ fn tables(file: &str) -> Result<String, String> {
 
 fn runs(file: &str) -> Result<String, String> {
     read_all(&contents(file)?, Reader::question)?.iter().map(answers::run).collect()
+}
+
+fn printed(file: &str) -> Result<String, String> {
+    programs::read(&contents(file)?)?.into_iter().map(programs::printed).collect()
 }
 
 fn contents(file: &str) -> Result<Vec<u8>, String> {

@@ -16,6 +16,7 @@ pub fn pictures() -> Vec<Picture> {
     all.extend(codels());
     all.extend(shapes());
     all.extend(slides());
+    all.extend(apart_from_the_page());
     all.extend((6..=10).flat_map(spirals));
     all.extend(small());
     let mut random = Random::seeded(SEED);
@@ -96,6 +97,14 @@ fn slides() -> Vec<Picture> {
         &["r.#.r", ".....", "#.y.#", ".....", "r.#.r"],
     ];
     drawings.map(|lines| drawn(1, lines)).into()
+}
+
+/// The smallest pictures on which docs/DIFFERENCES.md has the slide of the page end otherwise: at an eighth turn, and
+/// with another attempt after one that is lost.
+fn apart_from_the_page() -> [Picture; 2] {
+    let eighth = ["r.#", "r..", "#..", "#.#", "..r"];
+    let next = ["r..", "b#."];
+    [drawn(1, &eighth), drawn(1, &next)]
 }
 
 /// A white path with so many turns to the right, between black walls, to a yellow codel; entered to

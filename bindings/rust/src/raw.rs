@@ -1,0 +1,161 @@
+//! The functions of the archive, on slices.
+//!
+//! C has a slice as a pointer and a length, and the archive wants no null pointer. The pointer of a Rust slice is never
+//! null: that of an empty one dangles, but it is aligned and not null, and the archive reads no element of it. `&mut`
+//! slices can't overlap, so neither can those that are written. `bool` is one byte, 0 or 1, on both sides.
+use crate::{Lent, Room, Shape, Table, Terms};
+
+#[cfg(not(target_arch = "x86_64"))]
+compile_error!("libpiet_c.a is for x86-64");
+
+extern "C" {
+    fn piet_classify(
+        pixels: *const u8,
+        pixels_length: usize,
+        height: usize,
+        width: usize,
+        setting: u8,
+        colours: *mut u8,
+        colours_length: usize,
+        answer: *mut u64,
+        answer_length: usize,
+    ) -> u32;
+    fn piet_build(
+        colours: *const u8,
+        colours_length: usize,
+        height: usize,
+        width: usize,
+        codel: usize,
+        map: *mut u32,
+        map_length: usize,
+        rows: *mut u32,
+        rows_length: usize,
+        exits: *mut u32,
+        exits_length: usize,
+        work: *mut u32,
+        work_length: usize,
+        answer: *mut u64,
+        answer_length: usize,
+    ) -> u32;
+    fn piet_label(
+        colour: u8,
+        row: usize,
+        column: usize,
+        out: *mut u8,
+        out_length: usize,
+        answer: *mut u64,
+        answer_length: usize,
+    ) -> u32;
+    fn piet_determine_runs_forever(
+        n: usize,
+        rows: *const u32,
+        rows_length: usize,
+        exits: *const u32,
+        exits_length: usize,
+        answer: *mut u64,
+        answer_length: usize,
+    ) -> u32;
+    fn piet_run(
+        n: usize,
+        rows: *const u32,
+        rows_length: usize,
+        exits: *const u32,
+        exits_length: usize,
+        limit: u64,
+        abstract_mode: bool,
+        input: *const u8,
+        input_length: usize,
+        stack: *mut i64,
+        stack_length: usize,
+        kinds: *mut u8,
+        kinds_length: usize,
+        values: *mut i64,
+        values_length: usize,
+        answer: *mut u64,
+        answer_length: usize,
+    ) -> u32;
+}
+
+pub fn classify(
+    pixels: &[u8],
+    (height, width): (usize, usize),
+    setting: u8,
+    colours: &mut [u8],
+    answer: &mut [u64; 2],
+) -> u32 {
+    // SAFETY: each pointer comes with the length of its slice
+    unsafe {
+        piet_classify(
+            pixels.as_ptr(),
+            pixels.len(),
+            height,
+            width,
+            setting,
+            colours.as_mut_ptr(),
+            colours.len(),
+            answer.as_mut_ptr(),
+            answer.len(),
+        )
+    }
+}
+
+pub fn build(colours: &[u8], shape: Shape, lent: Lent, answer: &mut [u64; 2]) -> u32 {
+    // SAFETY: each pointer comes with the length of its slice
+    unsafe {
+        piet_build(
+            colours.as_ptr(),
+            colours.len(),
+            shape.height,
+            shape.width,
+            shape.codel,
+            lent.map.as_mut_ptr(),
+            lent.map.len(),
+            lent.rows.as_mut_ptr(),
+            lent.rows.len(),
+            lent.exits.as_mut_ptr(),
+            lent.exits.len(),
+            lent.work.as_mut_ptr(),
+            lent.work.len(),
+            answer.as_mut_ptr(),
+            answer.len(),
+        )
+    }
+}
+
+pub fn label(colour: u8, (row, column): (usize, usize), out: &mut [u8], answer: &mut [u64; 1]) -> u32 {
+    let (o, a) = (out.as_mut_ptr(), answer.as_mut_ptr());
+    // SAFETY: each pointer comes with the length of its slice
+    unsafe { piet_label(colour, row, column, o, out.len(), a, answer.len()) }
+}
+
+pub fn determine_runs_forever(table: Table, answer: &mut [u64; 1]) -> u32 {
+    let Table { regions, rows, exits } = table;
+    let (r, e, a) = (rows.as_ptr(), exits.as_ptr(), answer.as_mut_ptr());
+    // SAFETY: each pointer comes with the length of its slice
+    unsafe { piet_determine_runs_forever(regions, r, rows.len(), e, exits.len(), a, answer.len()) }
+}
+
+pub fn run(table: Table, terms: Terms, room: Room, answer: &mut [u64; 8]) -> u32 {
+    // SAFETY: each pointer comes with the length of its slice
+    unsafe {
+        piet_run(
+            table.regions,
+            table.rows.as_ptr(),
+            table.rows.len(),
+            table.exits.as_ptr(),
+            table.exits.len(),
+            terms.limit,
+            terms.abstract_mode,
+            terms.input.as_ptr(),
+            terms.input.len(),
+            room.stack.as_mut_ptr(),
+            room.stack.len(),
+            room.kinds.as_mut_ptr(),
+            room.kinds.len(),
+            room.values.as_mut_ptr(),
+            room.values.len(),
+            answer.as_mut_ptr(),
+            answer.len(),
+        )
+    }
+}

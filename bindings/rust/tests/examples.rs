@@ -1,0 +1,44 @@
+//! The repository's examples: each job through the library gives what stands beside it.
+use piet::{run_pixels, Cells, Shape, Terms};
+use std::fs;
+use std::path::{Path, PathBuf};
+
+/// The run program's room.
+const CELLS: Cells = Cells { stack: 256, outputs: 256 };
+
+fn jobs() -> Vec<PathBuf> {
+    let folder = Path::new(env!("CARGO_MANIFEST_DIR")).join("../../examples");
+    let entries = fs::read_dir(folder).expect("the folder of examples");
+    let paths = entries.map(|entry| entry.expect("an entry").path());
+    paths.filter(|path| path.extension().is_some_and(|e| e == "job")).collect()
+}
+
+/// The body of the first record, and what follows it. The examples are all well formed.
+fn record(bytes: &[u8]) -> (&[u8], &[u8]) {
+    let length = u32::from_le_bytes(bytes[..4].try_into().expect("four bytes"));
+    bytes[6..].split_at(length as usize)
+}
+
+fn answer(job: &[u8]) -> String {
+    let (picture, rest) = record(job);
+    let (way, rest) = record(rest);
+    let (input, _) = record(rest);
+    let side = |at: usize| usize::from(u16::from_le_bytes([picture[at], picture[at + 1]]));
+    let limit = u64::from_le_bytes(way[..8].try_into().expect("eight bytes"));
+    let shape = Shape { height: side(0), width: side(2), codel: side(4) };
+    let terms = Terms { limit, abstract_mode: way[8] == 1, input };
+    match run_pixels(&picture[6..], shape, terms, CELLS) {
+        Ok(told) => told.to_string(),
+        Err(refusal) => format!("refused {}\n", refusal.number()),
+    }
+}
+
+#[test]
+fn examples() {
+    let jobs = jobs();
+    assert!(jobs.len() >= 9, "found {} examples", jobs.len());
+    for path in jobs {
+        let expected = fs::read_to_string(path.with_extension("out")).expect("an expected answer");
+        assert_eq!(answer(&fs::read(&path).expect("a job")), expected, "{}", path.display());
+    }
+}

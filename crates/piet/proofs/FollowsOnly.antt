@@ -1,0 +1,207 @@
+-- Demand 3 settles a run: what a picture, what is given and a limit allow is one end. Assumes nothing.
+use mathlib.Core.Path.{_≡_, refl, sym, ap, ap₂, subst, _∙_}
+use mathlib.Core.Bool.{true, false, true≢false}
+use mathlib.Core.List.{List}
+use mathlib.Core.Logic.{by-cases}
+use Prim.Native.Nat.{ℕ, _<_}
+use native.Mathlib.Omega.{arith}
+use native.Mathlib.Decide.{decLt}
+use lib.ListN.{length}
+use lib.Seq.{ext-getD}
+use Rattle.flow.specs.declared.PointerState.{PointerState}
+use Rattle.flow.specs.Pointer.{Valid, numberOf, attemptOf}
+use Rattle.flow.proofs.Order.{number-small, valid-number, valid-attempt}
+use Rattle.machine.specs.declared.Stop.{Stop}
+use Rattle.machine.specs.declared.Stop.the-variants.{Completed, MaxSteps, NeedsInput, StackFull, OutputFull, BadInput}
+use Rattle.machine.specs.Machine.{Store, keeps, stops}
+use Rattle.colour.specs.Decode.{decodeOf}
+use Rattle.picture.specs.Picture.{Picture, codels, codelColour, colourAt, Sound}
+use Rattle.picture.proofs.Codels.{cols-pos, inside-of}
+use Rattle.region.specs.Grid.{gridOf}
+use Rattle.region.specs.Region.{IsMap}
+use Rattle.region.proofs.MapLaws.{unique}
+use Rattle.exit.specs.declared.attempt.Way.the-variants.{Step, Glide}
+use Rattle.cfg.specs.Nodes.{regionAt}
+use Rattle.cfg.proofs.NodeLaws.{same-codel, same-way}
+use Rattle.cfg.proofs.Trying.{placed}
+use Rattle.interpreter.specs.Run.{Machine, End}
+use Rattle.piet.specs.Moves.{Opens, beside, across, FirstOpen, NoneOpen}
+use Rattle.piet.specs.Follows.{Given, Move, doing, Walk, starts, moves, Follows}
+use Rattle.piet.proofs.Bridge.{clash}
+use Rattle.piet.proofs.Following.{keeps-valid}
+
+-- the reasons to stop: three that the picture and the limit tell, and those of a move that is not kept
+data Reason (s : Stop) : Type 0 where
+  by-limit : s ≡ MaxSteps → Reason s
+  by-waiting : s ≡ NeedsInput → Reason s
+  by-end : s ≡ Completed → Reason s
+  by-bar : (s ≡ MaxSteps → ⊥) → (s ≡ NeedsInput → ⊥) → (s ≡ Completed → ⊥) → Reason s
+
+reason : (s : Stop) → Reason s
+reason MaxSteps = by-limit refl
+reason NeedsInput = by-waiting refl
+reason Completed = by-end refl
+reason StackFull = by-bar (λ h. clash (cc)) (λ h. clash (cc)) (λ h. clash (cc))
+reason OutputFull = by-bar (λ h. clash (cc)) (λ h. clash (cc)) (λ h. clash (cc))
+reason BadInput = by-bar (λ h. clash (cc)) (λ h. clash (cc)) (λ h. clash (cc))
+
+module _ (p : Picture) (map : List ℕ) (g : Given) where
+  -- ---- a longer walk goes on from the end of a shorter one
+
+  record Goes (length-before : ℕ) : Type 0 where
+    history : List Move
+    region : ℕ
+    store : Store
+    walk : Walk p map g history region store
+    counted : length history ≡ length-before
+    unawaited : store .awaiting ≡ false
+    target : ℕ
+    pointers : PointerState
+    instruction : ℕ
+    next : FirstOpen p map region (store .pointers) target pointers instruction
+    then : Store
+    kept : doing p map g region pointers instruction store ≡ keeps then
+
+  passes : {h : List Move} {r : ℕ} {m : Store} (a : ℕ) → Walk p map g h r m → a < length h → Goes a
+  passes a starts l = absurd (omega arith)
+  passes a (moves {history = h} {r = r} {target = t} {i = i} {m = m} {m′ = n} {u = u} w f F k) l =
+      by-cases (decLt a (length h)) (λ s. passes a w s) (λ s. record {
+        history = h;
+        region = r;
+        store = m;
+        walk = w;
+        counted = omega arith;
+        unawaited = f;
+        target = t;
+        pointers = u;
+        instruction = i;
+        next = F;
+        then = n;
+        kept = k;
+      })
+
+module _ {p : Picture} {map : List ℕ} (S : Sound p) (L : length map ≡ codels p) where
+  -- ---- an attempt leads to one region, with one state of the pointers and one instruction
+
+  opens-only : {r t i t′ i′ : ℕ} {q u u′ : PointerState} → Valid q → Opens p map r q t u i → Opens p map r q t′ u′ i′
+      → (t ≡ t′) × (u ≡ u′) × (i ≡ i′)
+  opens-only {q = q} v (beside {a = a} {b = b} x) (beside {a = a′} {b = b′} y) =
+      let w : Step a b ≡ Step a′ b′ = same-way (cols-pos S) L (number-small q v) x y in
+      let ea : a ≡ a′ = cc in
+      let eb : b ≡ b′ = cc in
+      let c = same-codel (cols-pos S) L (number-small q v) x y in
+      (ap₂ (regionAt p map) ea eb, refl, ap₂ decodeOf (ap (codelColour p) c) (ap₂ (colourAt p) ea eb))
+  opens-only {q = q} v (beside x) (across y) = let w = same-way (cols-pos S) L (number-small q v) x y in clash (cc)
+  opens-only {q = q} v (across x) (beside y) = let w = same-way (cols-pos S) L (number-small q v) x y in clash (cc)
+  opens-only {q = q} {u = u} {u′ = u′} v (across {a = a} {b = b} {c = c} {d = d} x) (across {a = a′} {b = b′} {c = c′} {d = d′} y) =
+      let w : Glide a b c d u ≡ Glide a′ b′ c′ d′ u′ = same-way (cols-pos S) L (number-small q v) x y in
+      let ec : c ≡ c′ = cc in
+      let ed : d ≡ d′ = cc in
+      (ap₂ (regionAt p map) ec ed, cc, refl)
+
+  opens-valid : {r t i : ℕ} {q u : PointerState} → Valid q → Opens p map r q t u i → Valid u
+  opens-valid v (beside x) = v
+  opens-valid {q = q} v (across x) =
+      placed (inside-of S (x .codel) (omega (arith, x .leaves .codel, L))) (valid-number (numberOf q) (number-small q v)) (x .way) .2
+
+  -- ---- so does the first open one
+
+  not-before : {r t i t′ i′ : ℕ} {q u u′ : PointerState} (F : FirstOpen p map r q t u i) (G : FirstOpen p map r q t′ u′ i′)
+      → F .attempt < G .attempt → ⊥
+  not-before F G h = G .before (F .attempt) h .never _ _ _ (F .opens)
+
+  first-only : {r t i t′ i′ : ℕ} {q u u′ : PointerState} → Valid q → FirstOpen p map r q t u i → FirstOpen p map r q t′ u′ i′
+      → (t ≡ t′) × (u ≡ u′) × (i ≡ i′)
+  first-only {r} {t} {i} {t′} {i′} {q} {u} {u′} v F G =
+      let e : G .attempt ≡ F .attempt = omega (arith, not-before F G, not-before G F) in
+      opens-only (valid-attempt q (F .attempt) v) (F .opens)
+      (subst (λ (k : ℕ). Opens p map r (attemptOf q k) t′ u′ i′) e (G .opens))
+
+  module _ (g : Given) where
+    -- ---- walks of one length end alike
+
+    walk-valid : {h : List Move} {r : ℕ} {m : Store} → Walk p map g h r m → Valid (m .pointers)
+    walk-valid starts = record { dp = omega arith; cc = omega arith }
+    walk-valid (moves {r = r} {i = i} {m = m} {u = u} w f F k) =
+        keeps-valid p map g r u i m k (opens-valid (valid-attempt (m .pointers) (F .attempt) (walk-valid w)) (F .opens))
+
+    -- from one place the next move is one, and comes to one thing
+    move-only : {r t i r′ t′ i′ : ℕ} {m m′ : Store} {u u′ : PointerState} → Valid (m .pointers) → r ≡ r′ → m ≡ m′
+        → FirstOpen p map r (m .pointers) t u i → FirstOpen p map r′ (m′ .pointers) t′ u′ i′
+        → (t ≡ t′) × (doing p map g r u i m ≡ doing p map g r′ u′ i′ m′)
+    move-only {r} {t} {i} {r′} {t′} {i′} {m} {m′} {u} {u′} v er em F F′ =
+        let o = first-only v F (subst (λ (x : ℕ). FirstOpen p map x (m .pointers) t′ u′ i′) (sym er)
+        (subst (λ (y : Store). FirstOpen p map r′ (y .pointers) t′ u′ i′) (sym em) F′)) in
+        (o .0, λ j. doing p map g (er j) (o .1 j) (o .2 j) (em j))
+
+    -- none is open, and one is
+    none-first : {r r′ t i : ℕ} {m m′ : Store} {u : PointerState} → r ≡ r′ → m ≡ m′ → NoneOpen p map r (m .pointers)
+        → FirstOpen p map r′ (m′ .pointers) t u i → ⊥
+    none-first {r} {r′} {m = m} {m′ = m′} er em N F =
+        subst (λ (y : Store). NoneOpen p map r′ (y .pointers)) em (subst (λ (x : ℕ). NoneOpen p map x (m .pointers)) er N)
+        .all (F .attempt) (F .few) .never _ _ _ (F .opens)
+
+    walk-only : {h h′ : List Move} {r r′ : ℕ} {m m′ : Store} → Walk p map g h r m → Walk p map g h′ r′ m′ → length h ≡ length h′
+        → (r ≡ r′) × (m ≡ m′)
+    walk-only starts starts e = (refl, refl)
+    walk-only starts (moves w f F k) e = absurd (omega arith)
+    walk-only (moves w f F k) starts e = absurd (omega arith)
+    walk-only (moves {m′ = n} w f F k) (moves {m′ = n′} w′ f′ F′ k′) e =
+        let a = walk-only w w′ (omega arith) in
+        let o = move-only (walk-valid w) (a .0) (a .1) F F′ in
+        let z : keeps n ≡ keeps n′ = sym k ∙ o .1 ∙ k′ in
+        (o .0, cc)
+
+    -- ---- and so neither of two ends comes before the other
+
+    not-earlier : {limit : ℕ} {e e′ : End} → Follows p map g limit e → Follows p map g limit e′ → e .at .steps < e′ .at .steps → ⊥
+    not-earlier {limit} {e} {e′} A B h =
+        let G = passes p map g (e .at .steps) (B .walk) (omega (arith, B .counted)) in
+        let o = walk-only (A .walk) (G .walk) (omega (arith, A .counted, G .counted)) in
+        goes G (o .0) (o .1) (reason (e .stop))
+      where
+        goes : (G : Goes p map g (e .at .steps)) → e .at .region ≡ G .region → e .at .store ≡ G .store → Reason (e .stop) → ⊥
+        goes G er em (by-limit s) = omega (arith, A .limited .0 s, B .within)
+        goes G er em (by-waiting s) = true≢false (sym (A .awaited .0 s .1) ∙ ap (λ (m : Store). m .awaiting) em ∙ G .unawaited)
+        goes G er em (by-end s) = none-first er em (A .completed .0 s .2) (G .next)
+        goes G er em (by-bar x y z) =
+            let R = A .barred x y z in
+            let o = move-only (walk-valid (A .walk)) er em (R .next) (G .next) in
+            let k : stops (e .stop) ≡ keeps (G .then) = sym (R .unkept) ∙ o .1 ∙ G .kept in
+            clash (cc)
+
+    -- ---- nor stops for another reason
+
+    stop-only : {limit : ℕ} {s s′ : Stop} {at : Machine} → Follows p map g limit (record { stop = s; at = at })
+        → Follows p map g limit (record { stop = s′; at = at }) → s ≡ s′
+    stop-only {limit} {s} {s′} A B = go (reason s) (reason s′)
+      where
+        go : Reason s → Reason s′ → s ≡ s′
+        go (by-limit a) b = a ∙ sym (B .limited .1 (A .limited .0 a))
+        go (by-waiting a) b = a ∙ sym (B .awaited .1 (A .awaited .0 a))
+        go (by-end a) b = a ∙ sym (B .completed .1 (A .completed .0 a))
+        go (by-bar x y z) (by-limit b) = absurd (x (A .limited .1 (B .limited .0 b)))
+        go (by-bar x y z) (by-waiting b) = absurd (y (A .awaited .1 (B .awaited .0 b)))
+        go (by-bar x y z) (by-end b) = absurd (z (A .completed .1 (B .completed .0 b)))
+        go (by-bar x y z) (by-bar x′ y′ z′) =
+            let R = A .barred x y z in
+            let R′ = B .barred x′ y′ z′ in
+            let o = move-only (walk-valid (A .walk)) refl refl (R .next) (R′ .next) in
+            let k : stops s ≡ stops s′ = sym (R .unkept) ∙ o .1 ∙ R′ .unkept in
+            cc
+
+    -- one numbering of the regions allows one end
+    pub follows-only : {limit : ℕ} {e e′ : End} → Follows p map g limit e → Follows p map g limit e′ → e ≡ e′
+    follows-only {limit} {e} {e′} A B =
+        let n : e .at .steps ≡ e′ .at .steps = omega (arith, not-earlier A B, not-earlier B A) in
+        let o = walk-only (A .walk) (B .walk) (omega (arith, A .counted, B .counted)) in
+        let m : e .at ≡ e′ .at = λ j. record { region = o .0 j; steps = n j; store = o .1 j } in
+        let s = stop-only A (subst (λ (x : Machine). Follows p map g limit (record { stop = e′ .stop; at = x })) (sym m) B) in
+        λ j. record { stop = s j; at = m j }
+
+-- the end of a run of a picture is settled: the numbering of the regions is the picture's own
+pub picture-only : {p : Picture} {map map′ : List ℕ} {n n′ : ℕ} → Sound p → length map ≡ codels p → length map′ ≡ codels p → IsMap (gridOf p) map n
+    → IsMap (gridOf p) map′ n′ → (g : Given) {limit : ℕ} {e e′ : End} → Follows p map g limit e → Follows p map′ g limit e′ → e ≡ e′
+picture-only {p} {map} {map′} {n} {n′} S l l′ M M′ g {limit} {e} {e′} A B =
+    let same : map ≡ map′ = ext-getD 0 map map′ (l ∙ sym l′) (λ k h. unique (gridOf p) map map′ n n′ M M′ .0 k (omega (arith, l))) in
+    follows-only S l g A (subst (λ (x : List ℕ). Follows p x g limit e′) (sym same) B)

@@ -1,0 +1,89 @@
+/*
+ * Document 01's worked job, through the library: light red and red, three steps.
+ *
+ *     rt staticlib piet_c
+ *     gcc examples/c/worked.c -Iinclude -Ltarget/staticlib -lpiet_c -o worked
+ *     ./worked | diff examples/c/worked.out -
+ */
+#include <inttypes.h>
+#include <stdio.h>
+#include <stdlib.h>
+
+#include "piet.h"
+
+enum { HEIGHT = 1, WIDTH = 2, CODEL = 1, CODELS = HEIGHT * WIDTH, STACK = 16, OUTPUTS = 16, LIMIT = 3 };
+
+/* The table of the picture, as piet_build fills it. */
+struct table {
+    size_t regions;
+    uint32_t map[CODELS], rows[PIET_ROW * CODELS], exits[PIET_EXITS * CODELS], work[CODELS];
+};
+
+struct run {
+    uint64_t answer[PIET_RUN_ANSWER];
+    int64_t stack[STACK], values[OUTPUTS];
+    uint8_t kinds[OUTPUTS];
+};
+
+/* A refusal is a number; nothing was written, so there is nothing to go on with. */
+static void expect_done(uint32_t number)
+{
+    if (number != PIET_DONE) {
+        printf("refused %" PRIu32 "\n", number);
+        exit(1);
+    }
+}
+
+static void classify_and_build(const uint8_t *pixels, struct table *table)
+{
+    uint8_t colours[CODELS];
+    uint64_t answer[PIET_BUILD_ANSWER];
+    expect_done(piet_classify(pixels, 3 * CODELS, HEIGHT, WIDTH, PIET_UNKNOWN_REFUSED, colours, CODELS, answer,
+                              PIET_CLASSIFY_ANSWER));
+    expect_done(piet_build(colours, CODELS, HEIGHT, WIDTH, CODEL, table->map, CODELS, table->rows, PIET_ROW * CODELS,
+                           table->exits, PIET_EXITS * CODELS, table->work, CODELS, answer, PIET_BUILD_ANSWER));
+    table->regions = answer[0];
+}
+
+static void run_table(const struct table *table, struct run *run)
+{
+    const uint8_t no_input[1] = {0}; /* an empty slice has a pointer too */
+    expect_done(piet_run(table->regions, table->rows, PIET_ROW * CODELS, table->exits, PIET_EXITS * CODELS, LIMIT, false,
+                         no_input, 0, run->stack, STACK, run->kinds, OUTPUTS, run->values, OUTPUTS, run->answer,
+                         PIET_RUN_ANSWER));
+}
+
+static void print_place(const struct table *table, const struct run *run)
+{
+    const uint32_t *row = table->rows + PIET_ROW * run->answer[2];
+    uint8_t label[PIET_LABEL_ROOM];
+    uint64_t length;
+    expect_done(piet_label((uint8_t)row[0], row[2], row[3], label, PIET_LABEL_ROOM, &length, PIET_LABEL_ANSWER));
+    printf("at %.*s %" PRIu64 " %" PRIu64 "\n", (int)length, (const char *)label, run->answer[3], run->answer[4]);
+}
+
+/* The stack with its top first, then the outputs in order, as the run program prints them. */
+static void print_values(const struct run *run)
+{
+    uint64_t depth = run->answer[5], outputs = run->answer[6];
+    printf("stack %" PRIu64, depth);
+    for (uint64_t i = depth; i > 0; i--)
+        printf(" %" PRId64, run->stack[i - 1]);
+    printf("\nout %" PRIu64, outputs);
+    for (uint64_t i = 0; i < outputs; i++)
+        printf(" %c%" PRId64, run->kinds[i] == PIET_CHAR ? 'c' : 'i', run->values[i]);
+    printf("\n");
+}
+
+int main(void)
+{
+    static const uint8_t pixels[3 * CODELS] = {0xFF, 0xC0, 0xC0, 0xFF, 0x00, 0x00};
+    struct table table;
+    struct run run;
+    classify_and_build(pixels, &table);
+    run_table(&table, &run);
+    printf("status %" PRIu64 "\nsteps %" PRIu64 "\n", run.answer[0], run.answer[1]);
+    print_place(&table, &run);
+    print_values(&run);
+    return 0;
+}

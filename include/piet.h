@@ -1,0 +1,234 @@
+/*
+ * The Piet library, libpiet_c.a (made by `rt staticlib piet_c`, for x86-64): from pixels to the end of a run.
+ *
+ *   piet_classify   pixels            -> colour numbers
+ *   piet_build      colour numbers    -> the picture's table: regions and their exits
+ *   piet_run        table, input      -> status, stack and outputs
+ *   piet_label      a region's colour and first pixel -> its name, as RegRed_0_1
+ *   piet_determine_runs_forever       table -> whether every node has an exit
+ *
+ * Slices. Each slice is lent as two arguments, a pointer and the number of its elements. No pointer is null, also not
+ * that of an empty slice. Slices of one call do not overlap where one of them is written. No call keeps what it was
+ * lent, none allocates, and none touches what lies past a slice's end.
+ *
+ * What is returned. 0 for done, else a refusal (enum piet_refusal). Any argument may be wrong: no value of a number
+ * or of a lent cell does more than a refusal.
+ *
+ * answer. The values of a call are written to the first cells of `answer`, as many as are named below; the cells after
+ * them stay as they were. An `answer` with fewer cells than named returns PIET_REFUSED_ROOM before all other tests,
+ * and nothing is written. On any other refusal the named cells become 0, but for the place where one is named, and
+ * every other slice stays as it was.
+ */
+#ifndef PIET_H
+#define PIET_H
+
+#include <stdbool.h>
+#include <stddef.h>
+#include <stdint.h>
+
+#ifdef __cplusplus
+extern "C" {
+#endif
+
+/* What a call returns. 11 is the run program's refusal of a job; no call here returns it. */
+enum piet_refusal {
+    PIET_DONE = 0,
+    PIET_REFUSED_SIZE = 1,     /* height or width 0 or above 1,024 */
+    PIET_REFUSED_BYTES = 2,    /* pixels not 3 x height x width bytes, or colours not height x width */
+    PIET_REFUSED_SETTING = 3,  /* a setting for unknown pixels above 3 */
+    PIET_REFUSED_ROOM = 4,     /* a result, a work or an answer slice too short */
+    PIET_REFUSED_PIXEL = 5,    /* settings 0 and 1: a pixel that is none of the twenty colours; its row and column */
+    PIET_REFUSED_CODEL = 6,    /* codel width 0 or above 1,024 */
+    PIET_REFUSED_GRID = 7,     /* more than 65,536 codels */
+    PIET_REFUSED_COLOUR = 8,   /* a colour number above 19; its index */
+    PIET_REFUSED_WHITE = 9,    /* pixel (0,0) is white, and a run can't start there */
+    PIET_REFUSED_TABLE = 10,   /* no table of a picture: see piet_run */
+    PIET_REFUSED_LABEL = 12    /* colour above 19, row or column above 1,023, or under 22 bytes lent */
+};
+
+/* Colour numbers: a hue 0 to 5, plus 6 for each step of lightness above dark. */
+enum piet_colour {
+    PIET_DARK_RED = 0,
+    PIET_DARK_YELLOW = 1,
+    PIET_DARK_GREEN = 2,
+    PIET_DARK_CYAN = 3,
+    PIET_DARK_BLUE = 4,
+    PIET_DARK_MAGENTA = 5,
+    PIET_RED = 6,
+    PIET_YELLOW = 7,
+    PIET_GREEN = 8,
+    PIET_CYAN = 9,
+    PIET_BLUE = 10,
+    PIET_MAGENTA = 11,
+    PIET_LIGHT_RED = 12,
+    PIET_LIGHT_YELLOW = 13,
+    PIET_LIGHT_GREEN = 14,
+    PIET_LIGHT_CYAN = 15,
+    PIET_LIGHT_BLUE = 16,
+    PIET_LIGHT_MAGENTA = 17,
+    PIET_BLACK = 18,
+    PIET_WHITE = 19
+};
+
+/* What becomes of a pixel that is none of the twenty colours. */
+enum piet_unknown {
+    PIET_UNKNOWN_DEFAULT = 0, /* acts as PIET_UNKNOWN_REFUSED */
+    PIET_UNKNOWN_REFUSED = 1,
+    PIET_UNKNOWN_WHITE = 2,
+    PIET_UNKNOWN_BLACK = 3
+};
+
+/* An exit's instruction. */
+enum piet_instruction {
+    PIET_NONE = 0,
+    PIET_PUSH = 1,
+    PIET_POP = 2,
+    PIET_ADD = 3,
+    PIET_SUB = 4,
+    PIET_MUL = 5,
+    PIET_DIV = 6,
+    PIET_MOD = 7,
+    PIET_NOT = 8,
+    PIET_GT = 9,
+    PIET_PTR = 10,
+    PIET_SWI = 11,
+    PIET_DUP = 12,
+    PIET_ROLL = 13,
+    PIET_CHAR_IN = 14,
+    PIET_CHAR_OUT = 15,
+    PIET_INT_IN = 16,
+    PIET_INT_OUT = 17
+};
+
+/* Why a run stopped. 4, 5 and 6: the step is not taken, and everything stands as before it. */
+enum piet_status {
+    PIET_COMPLETED = 1,   /* no attempt is open */
+    PIET_MAX_STEPS = 2,   /* as many steps as the limit */
+    PIET_NEEDS_INPUT = 3, /* abstract mode, after an input instruction */
+    PIET_STACK_FULL = 4,  /* the depth after the step would pass the stack's room */
+    PIET_OUTPUT_FULL = 5, /* the step would emit, and no output cell is left */
+    PIET_BAD_INPUT = 6    /* the line that the step would read is not UTF-8 */
+};
+
+/* The kind of an output. */
+enum piet_kind {
+    PIET_CHAR = 1, /* a Unicode scalar value */
+    PIET_INT = 2
+};
+
+/* Sizes of answers, rows and exits, and of a label's room. */
+enum piet_size {
+    PIET_CLASSIFY_ANSWER = 2,
+    PIET_BUILD_ANSWER = 2,
+    PIET_LABEL_ANSWER = 1,
+    PIET_FOREVER_ANSWER = 1,
+    PIET_RUN_ANSWER = 8,
+    PIET_ROW = 5,         /* cells of a region's row: colour, size, first pixel row, first pixel column, node mark */
+    PIET_EXITS = 8,       /* exits of a region, by pointer state 2 x dp + cc */
+    PIET_LABEL_ROOM = 22
+};
+
+/* An exit that is not 0 is 1 + target region + 65,536 x new pointer state + 524,288 x instruction. */
+#define PIET_EXIT_TARGET(exit) (((exit) - 1u) % 65536u)
+#define PIET_EXIT_STATE(exit) (((exit) - 1u) / 65536u % 8u)
+#define PIET_EXIT_INSTRUCTION(exit) (((exit) - 1u) / 524288u)
+
+/*
+ * The colour numbers of a picture's pixels, row by row.
+ *
+ *   pixels    three bytes a pixel (red, green, blue): 3 x height x width bytes
+ *   setting   enum piet_unknown
+ *   colours   room for height x width bytes; what is longer stays as it was past them
+ *   answer    2 cells: with PIET_REFUSED_PIXEL, row and column of the first such pixel; else 0, 0
+ *
+ * Returns the first refusal that holds in the order SIZE, SETTING, BYTES, ROOM, PIXEL, or PIET_DONE.
+ */
+uint32_t piet_classify(const uint8_t *pixels, size_t pixels_length,
+                       size_t height, size_t width, uint8_t setting,
+                       uint8_t *colours, size_t colours_length,
+                       uint64_t *answer, size_t answer_length);
+
+/*
+ * The table of a picture. With G = ceil(height / codel) x ceil(width / codel) codels and n regions:
+ *
+ *   colours   height x width colour numbers, one a pixel; a codel has the colour of its top left pixel
+ *   map       room for G: the region of each codel, row by row; regions are numbered from 0 by their first codel
+ *   rows      room for 5 x G: five cells a region: colour, size in codels, row and column of its first pixel, 1 for
+ *             a node (a region that is found from region 0) else 0
+ *   exits     room for 8 x G: eight cells a region, by pointer state 2 x dp + cc (dp right, down, left, up 0 to 3;
+ *             cc left, right 0, 1): 0 where the region is no node or the attempt is not open, else as PIET_EXIT_TARGET,
+ *             PIET_EXIT_STATE and PIET_EXIT_INSTRUCTION read it
+ *   work      room for G, left 0
+ *   answer    2 cells: n and 0; with PIET_REFUSED_COLOUR, 0 and the index of the first colour above 19
+ *
+ * Row and exit cells past the n regions, up to the room, become 0; cells past the room stay as they were.
+ *
+ * Returns the first refusal that holds in the order SIZE, CODEL, GRID, BYTES, COLOUR, WHITE, ROOM, or PIET_DONE.
+ */
+uint32_t piet_build(const uint8_t *colours, size_t colours_length,
+                    size_t height, size_t width, size_t codel,
+                    uint32_t *map, size_t map_length,
+                    uint32_t *rows, size_t rows_length,
+                    uint32_t *exits, size_t exits_length,
+                    uint32_t *work, size_t work_length,
+                    uint64_t *answer, size_t answer_length);
+
+/*
+ * The label of a region by its colour and first pixel: `Entry` for (0,0), else as RegRed_0_1.
+ *
+ *   out      room for 22 bytes: the label, then zeros up to 22 bytes; what is longer stays as it was past them.
+ *            The longest label has 22 bytes, so a label need not end with a zero
+ *   answer   1 cell: the label's length
+ *
+ * Returns PIET_REFUSED_LABEL or PIET_DONE.
+ */
+uint32_t piet_label(uint8_t colour, size_t row, size_t column,
+                    uint8_t *out, size_t out_length,
+                    uint64_t *answer, size_t answer_length);
+
+/*
+ * Whether every node of a table has an exit that is not 0.
+ *
+ *   n, rows, exits   a table, as for piet_run
+ *   answer           1 cell: 1 for yes, 0 for no
+ *
+ * Returns PIET_REFUSED_TABLE or PIET_DONE.
+ */
+uint32_t piet_determine_runs_forever(size_t n,
+                                     const uint32_t *rows, size_t rows_length,
+                                     const uint32_t *exits, size_t exits_length,
+                                     uint64_t *answer, size_t answer_length);
+
+/*
+ * A run over a table, from region 0 with dp right, cc left and an empty stack.
+ *
+ *   n, rows, exits   the table: the count of regions, 5 x n row cells, 8 x n exit cells; longer slices will do
+ *   limit            the most steps
+ *   abstract_mode    true: an input instruction reads nothing, and the run stops after it
+ *   input            the bytes that input instructions read, by lines
+ *   stack            the stack, of any length, 0 included; on return cell 0 is the bottom
+ *   kinds, values    the outputs in order, enum piet_kind and the value; the shorter of the two is the room, which
+ *                    may be 0
+ *   answer           8 cells: status (enum piet_status), steps, region, dp, cc, stack depth, count of outputs, bytes
+ *                    of input used
+ *
+ * All cells of stack, kinds and values past the depth or the count of outputs, each slice to its end, become 0.
+ *
+ * Returns PIET_REFUSED_TABLE where n is 0 or above 65,536, rows or exits are short, a node mark is above 1, or an exit
+ * is above 9,437,184 or has a target that is not below n; else PIET_DONE.
+ */
+uint32_t piet_run(size_t n,
+                  const uint32_t *rows, size_t rows_length,
+                  const uint32_t *exits, size_t exits_length,
+                  uint64_t limit, bool abstract_mode,
+                  const uint8_t *input, size_t input_length,
+                  int64_t *stack, size_t stack_length,
+                  uint8_t *kinds, size_t kinds_length,
+                  int64_t *values, size_t values_length,
+                  uint64_t *answer, size_t answer_length);
+
+#ifdef __cplusplus
+}
+#endif
+
+#endif
