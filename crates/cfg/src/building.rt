@@ -39,7 +39,7 @@ fn legal_first(colours: &[u8]) -> usize
 }
 
 // Whether a lent slice, given by its length, is too short for so many codels.
-fn too_short(count: usize, map: usize, rows: usize, exits: usize, work: usize) -> bool
+pub fn too_short(count: usize, map: usize, rows: usize, exits: usize, work: usize) -> bool
     requires { ⌜ count ≤ 65536 ⌝ }
     ensures { λ r. ⌜ r ≡ short count map rows exits work ⌝ }
 {
@@ -56,7 +56,7 @@ fn too_short(count: usize, map: usize, rows: usize, exits: usize, work: usize) -
 }
 
 // How many codels a picture of small sides has.
-fn codel_count(height: usize, width: usize, codel: usize) -> usize
+pub fn codel_count(height: usize, width: usize, codel: usize) -> usize
     requires { ⌜ (height ≤ 1024) × (width ≤ 1024) × (0 < codel) × (codel ≤ 1024) ⌝ }
     ensures { λ r. ⌜ r ≡ ceil height codel * ceil width codel ⌝ }
 {

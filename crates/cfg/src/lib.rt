@@ -6,3 +6,5 @@ mod search;
 
 pub use building::Built;
 pub use building::build;
+pub use building::codel_count;
+pub use building::too_short;

@@ -32,7 +32,7 @@ pub enum Classified {
 }
 
 // What the table says of pixel i.
-fn found_at(pixels: &[u8], i: usize) -> Found
+pub fn found_at(pixels: &[u8], i: usize) -> Found
     requires { ⌜ 3 * i + 2 < length (now pixels) ⌝ }
     ensures { λ f. ⌜ f ≡ getD (found (now (pixels .entry))) i Unknown ⌝ }
 {
@@ -73,7 +73,7 @@ fn first_unknown(pixels: &[u8], n: usize, width: usize) -> Classified
 }
 
 // The tests of document 01 in its order. Nothing is written.
-fn check(pixels: &[u8], height: usize, width: usize, setting: u8, room: usize) -> Classified
+pub fn check(pixels: &[u8], height: usize, width: usize, setting: u8, room: usize) -> Classified
     ensures { λ r. ⌜ numbered r ≡ answer (now (pixels .entry)) height width setting room ⌝ }
 {
     if wrong_side(height) {
@@ -99,7 +99,7 @@ fn check(pixels: &[u8], height: usize, width: usize, setting: u8, room: usize) -
 }
 
 // The colour number that a setting makes of what the table says: white is 19, black 18.
-fn shade_of(setting: u8, f: Found) -> u8
+pub fn shade_of(setting: u8, f: Found) -> u8
     ensures { λ r. ⌜ r ≡ shade setting f ⌝ }
 {
     match f {

@@ -10,7 +10,7 @@ ghost use mathlib.Core.Path.{_≡_};
 ghost use Rattle.flow.specs.Pointer.{Valid, rotated, switched};
 ghost use Rattle.text.specs.Input.{charOf, intOf};
 ghost use Rattle.stack.specs.Stack.{Lies};
-ghost use Rattle.machine.specs.Machine.{exec, take, turn, read, numbered};
+ghost use Rattle.machine.specs.Machine.{exec, take, turn, read, numbered, statusOf};
 ghost use Rattle.machine.specs.Held.{lent, Stands, Execs, StackExecs, atDepth, atOutputs, atUsed, atPointers, atWait, grownOf, wroteOf};
 
 // The instructions; Nothing is what a slide's or a black region's exit carries.
@@ -90,6 +90,20 @@ impl Core {
     {
         self.awaiting = true;
         self
+    }
+}
+
+// Document 01's number of a stop.
+pub fn status(stop: Stop) -> u64
+    ensures { λ r. ⌜ r ≡ statusOf stop ⌝ }
+{
+    match stop {
+        Stop::Completed => 1,
+        Stop::MaxSteps => 2,
+        Stop::NeedsInput => 3,
+        Stop::StackFull => 4,
+        Stop::OutputFull => 5,
+        Stop::BadInput => 6,
     }
 }
 

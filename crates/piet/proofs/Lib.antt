@@ -1,8 +1,12 @@
--- Demand 3, proved; and the definitions against the public page's rules.
+-- Demand 3, proved; what the call from pixels to a run's result keeps of it; and the definitions against the page's rules.
 pub mod Bridge
 pub mod Following
 pub mod Built
 pub mod FollowsOnly
+pub mod Seeing
+pub mod Refusing
+pub mod Drawing
+pub mod Only
 pub mod Page
 pub mod PageCommands
 pub mod PageRoll

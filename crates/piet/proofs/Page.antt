@@ -1,17 +1,18 @@
 -- The definitions meet the public page's rules of colours, of the start and of motion; each theorem follows the page's
 -- sentence. The table of the codel to leave by is `side-table` (exit, proof Page). Assumes nothing.
 use mathlib.Core.Path.{_≡_, refl, sym, ap, subst, _∙_}
-use mathlib.Core.Bool.{Bool, true, false, cond, _&&_}
+use mathlib.Core.Bool.{Bool, true, false, cond}
 use mathlib.Core.List.{List, [], _∷_, map}
 use mathlib.Core.Logic.{_↔_}
 use Prim.Native.Nat.{ℕ, _+_, _-_, _/_, _%_, _<_, _≤_}
 use native.Mathlib.Nat.{zero-mul}
 use native.Mathlib.Omega.{arith}
 use borrow.Author.Tests.{lt-ltb, le-ltb, ltb-true, ltb-false, ne-eqb}
-use lib.Dec.{T, eqb, ltb, eqb→eq}
+use lib.Dec.{ltb}
 use lib.ListN.{length, getD, List·getD-map}
 use Rattle.base.proofs.Table.{all-at}
-use Rattle.colour.specs.Palette.{Rgb, rgb, same, palette, black, white}
+use Rattle.colour.specs.Palette.{rgb, same, palette, black, white}
+use Rattle.colour.proofs.PaletteLaws.{same-bytes}
 use Rattle.colour.specs.Decode as decoding
 use Rattle.colour.specs.Decode.{decodeOf}
 use Rattle.flow.specs.declared.PointerState.{PointerState}
@@ -43,17 +44,6 @@ use Rattle.piet.specs.Page.{colours, line, column, commands, right, down
 use Rattle.piet.proofs.Bridge.{clash}
 
 -- ---- "Colours"
-
-both : (a b : Bool) → T (a && b) → T a × T b
-both true b t = (tt, t)
-both false b t = absurd t
-
--- three bytes that pass the test are one colour
-same-bytes : (p q : Rgb) → T (same p q) → p ≡ q
-same-bytes (rgb r g b) (rgb r′ g′ b′) t =
-    let x = both (eqb r r′ && eqb g g′) (eqb b b′) t in
-    let y = both (eqb r r′) (eqb g g′) (x .0) in
-    λ i. rgb (eqb→eq r r′ (y .0) i) (eqb→eq g g′ (y .1) i) (eqb→eq b b′ (x .1) i)
 
 -- the page's table: each of the eighteen colours stands in it, in the line and the column of its number
 pub colour-table : (c : ℕ) → c < 18 → getD palette c (rgb 0 0 0) ≡ getD (getD colours (line c) []) (column c) (rgb 0 0 0)

@@ -10,7 +10,6 @@ ghost use Rattle.picture.specs.Picture.{picture};
 ghost use Rattle.colour.specs.Classify as classifying;
 ghost use Rattle.colour.specs.Label as labelling;
 ghost use Rattle.cfg.specs.Build as building;
-ghost use Rattle.machine.specs.Machine.{statusOf};
 ghost use Rattle.machine.specs.Held as held;
 ghost use Rattle.interpreter.specs.Outcome as running;
 ghost use Rattle.interpreter.specs.Forever as always;
@@ -22,7 +21,6 @@ use colour::label::Labelled;
 use interpreter::Ended;
 use interpreter::Forever;
 use interpreter::Ran;
-use machine::Stop;
 
 // An answer of one value, and of two.
 struct One {
@@ -239,19 +237,6 @@ pub extern "C" fn piet_build(
     told.number
 }
 
-fn of_stop(stop: Stop) -> u64
-    ensures { λ r. ⌜ r ≡ statusOf stop ⌝ }
-{
-    match stop {
-        Stop::Completed => 1,
-        Stop::MaxSteps => 2,
-        Stop::NeedsInput => 3,
-        Stop::StackFull => 4,
-        Stop::OutputFull => 5,
-        Stop::BadInput => 6,
-    }
-}
-
 fn of_ended(e: Ended) -> Eight
     ensures { λ t. ⌜ numbers (t .number) (t .status ∷ t .steps ∷ t .region ∷ t .dp ∷ t .cc ∷ t .depth ∷ t .outputs ∷ t .used ∷ []) ≡ numbers 0 (running.resultOf e) ⌝ }
 {
@@ -261,7 +246,7 @@ fn of_ended(e: Ended) -> Eight
     let pointers = core.pointers;
     Eight {
         number: 0,
-        status: of_stop(stop),
+        status: machine::status(stop),
         steps: at.steps,
         region: at.region as u64,
         dp: pointers.dp as u64,

@@ -1,8 +1,8 @@
--- `piet_c::of_stop` meets its contract. Assumes nothing.
+-- `machine::status` meets its contract. Assumes nothing.
 use Rattle.machine.specs.Machine.{statusOf}
 use borrow.Author.Needs.{needs}
-use Rattle.piet_c.proofs.of_stop.Statement.{statement}
-use Rattle.piet_c.proofs.of_stop.Tie as tie
+use Rattle.machine.proofs.status.Statement.{statement}
+use Rattle.machine.proofs.status.Tie as tie
 
 enum-told : tie.Need-enum-told
 enum-told c = search needs
@@ -46,8 +46,8 @@ returns-6 : tie.Need-returns-6
 unfolding statusOf
 returns-6 c = rw (c .enum-told6 .given .1)
 
-pub of-stop-spec : {M : Type 1} → statement M
-of-stop-spec =
+pub status-spec : {M : Type 1} → statement M
+status-spec =
     tie.close
     (tie.spec
     enum-told

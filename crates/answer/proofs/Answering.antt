@@ -1,0 +1,85 @@
+-- From what a run of a job's picture answers to what is printed. Assumes nothing.
+use mathlib.Core.Path.{_≡_, refl, sym, ap, subst, _∙_}
+use mathlib.Core.List.{List, [], _∷_}
+use Prim.Native.Nat.{ℕ, suc, _+_, _≤_}
+use native.Mathlib.Omega.{arith}
+use lib.ListN.{length, drop, length-append}
+use Rattle.base.specs.Numbers.{numbers}
+use Rattle.base.specs.Lent.{Put, lent}
+use Rattle.base.proofs.Over.{over-zero}
+use Rattle.base.proofs.Refusals as refusing
+use Rattle.interpreter.specs.declared.Ended.{Ended}
+use Rattle.interpreter.specs.Run.{End}
+use Rattle.interpreter.specs.Outcome.{endedOf}
+use Rattle.piet.specs.declared.run_picture.Pictured.{Pictured}
+use Rattle.piet.specs.declared.run_picture.Pictured.the-variants.{Finished, Refused}
+use Rattle.piet.specs.RunPicture.{Asked, Lends, Runs}
+use Rattle.piet.specs.RunPicture as running
+use Rattle.job.specs.Encoding.{Content, IsJob}
+use Rattle.report.specs.Text.{refusalText}
+use Rattle.answer.specs.Answer.{askedOf, refusalOf, Answers, no-job, refused, ran, Prints, Outcome, short, printed}
+use Rattle.answer.specs.Printing.{linesOf, Printable}
+use Rattle.answer.proofs.Ending.{Sized, same-refusal, printable, lines-are, ran-so}
+
+clash : {A : Type 0} → _≡_ {A = ℕ} 0 1 → A
+clash e = absurd (no e)
+  where
+    no : _≡_ {A = ℕ} 0 1 → ⊥
+    no e = omega arith
+
+-- the text at the start
+pub prints : {job before after text : List ℕ} {n : ℕ} → Answers job text → Put before 0 text n after → Prints job before n after
+prints {before = before} {text = text} a p = record {
+  text = text;
+  answers = a;
+  size = omega (arith, p .next);
+  list = p .list ∙ over-zero before text;
+}
+
+-- a run that finished
+record Finish (a : Asked) (l l′ : Lends) (x : Ended) : Type 0 where
+  pub end : End
+  pub is : x ≡ endedOf end
+  pub none : running.refusalOf a l ≡ numbers 0 (0 ∷ 0 ∷ [])
+  pub runs : Runs a l l′ end
+
+finish : {a : Asked} {l l′ : Lends} {x : Ended} (r : Pictured) → r ≡ Finished x → running.Outcome a l r l′ → Finish a l l′ x
+finish r z (running.refused k v h q) = absurd (refusing.refused k v _ (sym q ∙ ap running.numbered z))
+finish r z (running.done {e} none R) = record { end = e; is = cc; none = none; runs = R }
+
+-- a refusal's number
+refusal-is : {a : Asked} {l l′ : Lends} {n y x : ℕ} (r : Pictured) → r ≡ Refused n y x → running.Outcome a l r l′
+    → (k : ℕ) × (v : List ℕ) × (n ≡ suc k) × (running.refusalOf a l ≡ numbers (suc k) v)
+refusal-is r z (running.refused k v h q) = (k, v, (let e = sym (ap running.numbered z) ∙ q in cc), h)
+refusal-is r z (running.done none R) = clash (cc)
+
+module _ {job : List ℕ} (c : Content) (j : IsJob job c) {l l′ : Lends} (s : Sized l) where
+  pub prints-refusal : {n y x r : ℕ} {before after : List ℕ} → running.Outcome (askedOf c) l (Refused n y x) l′ → Put before 0 (refusalText n) r after
+      → Prints job before r after
+  prints-refusal {n} o p =
+      let (k, v, e, h) = refusal-is _ refl o in
+      prints (rw e (refused c j k v (sym (same-refusal c s) ∙ h))) p
+
+  module _ (s′ : Sized l′) {x : Ended} (o : running.Outcome (askedOf c) l (Finished x) l′) where
+    f : Finish (askedOf c) l l′ x
+    f = finish _ refl o
+
+    none : refusalOf c ≡ numbers 0 (0 ∷ 0 ∷ [])
+    none = sym (same-refusal c s) ∙ f .none
+
+    pub printable-end : (room : ℕ) → 16384 ≤ room → Printable room x (l′ .rows) (l′ .run .stack) (l′ .run .kinds) (l′ .run .values)
+    printable-end room h = rw (f .is) (printable c s s′ none (f .runs) room h)
+
+    pub prints-end : {before after : List ℕ} {r : ℕ} → Put before 0 (linesOf x (l′ .rows) (l′ .run .stack) (l′ .run .kinds) (l′ .run .values)) r after
+        → Prints job before r after
+    prints-end p =
+        prints (ran c j none _ (f .end) _ (ran-so c s s′ none (f .runs))) (rw (f .is, lines-are c s s′ none (f .runs)) at p)
+
+-- the text lies in what is lent, so that a caller may take that part
+pub answer-within : {job before after : List ℕ} {r : ℕ} → Outcome job before r after → r ≤ length after
+unfolding lent
+answer-within (short h e f) = omega arith
+answer-within {before = before} {after = after} (printed h P) =
+    let l : length after ≡ length (P .text) + length (drop (length (P .text)) before) =
+    ap length (P .list) ∙ length-append (P .text) (drop (length (P .text)) before) in
+    omega (arith, P .size)

@@ -1,0 +1,6 @@
+-- Laws that belong to no one function.
+pub mod Labelling
+pub mod Slices
+pub mod Ending
+pub mod Answering
+pub mod Only

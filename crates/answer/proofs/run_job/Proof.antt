@@ -1,0 +1,137 @@
+-- `answer::run_job` meets its contract: what the run of the picture answers is printed.
+-- Assumes nothing.
+use Rattle.piet.specs.RunPicture.{Lends, lends}
+use Rattle.job.specs.Encoding.{Content}
+use Rattle.job.specs.Outcome.{contentOf}
+use Rattle.answer.proofs.Ending.{Sized, fresh-sized}
+use Rattle.answer.proofs.Answering.{printable-end, prints-end, prints-refusal}
+use borrow.Author.Needs.{needs}
+use Rattle.answer.proofs.run_job.Statement.{statement}
+use Rattle.answer.proofs.run_job.Tie as tie
+
+-- what the job says
+abbrev content : tie.Start → Content
+content s = contentOf (s .args .job .now) (s .args .p)
+
+-- how the slices that are lent to the run come back
+abbrev lent-after : tie.After-values2 → Lends
+lent-after v =
+    let z = v .before .before .before .before .before .before .before .before .run-parts .last .1 in
+    lends (z .1 .0) (z .1 .1 .0) (z .1 .1 .1 .0) (z .1 .1 .1 .1 .0) (z .1 .1 .1 .1 .1 .0) (z .1 .1 .1 .1 .1 .1 .0)
+    (z .1 .1 .1 .1 .1 .1 .1 .0) (z .1 .1 .1 .1 .1 .1 .1 .1 .0)
+
+sized : (v : tie.After-values2) → Sized (lent-after v)
+sized v = record {
+  colours = v .before .before .before .before .before .before .before .colours2 .given;
+  map = v .before .before .before .before .before .before .map2 .given;
+  rows = v .before .before .before .before .before .rows2 .given;
+  exits = v .before .before .before .before .exits2 .given;
+  work = v .before .before .before .work2 .given;
+  stack = v .before .before .stack2 .given;
+  kinds = v .before .kinds2 .given;
+  values = v .values2 .given;
+}
+
+slice-aggregate-run-parts : tie.Need-slice-aggregate-run-parts
+slice-aggregate-run-parts c = search needs
+
+slice-aggregate-run-parts-2 : tie.Need-slice-aggregate-run-parts-2
+slice-aggregate-run-parts-2 c = search needs
+
+slice-aggregate-run-parts-3 : tie.Need-slice-aggregate-run-parts-3
+slice-aggregate-run-parts-3 c = search needs
+
+slice-aggregate-run-parts-4 : tie.Need-slice-aggregate-run-parts-4
+slice-aggregate-run-parts-4 c = search needs
+
+slice-aggregate-run-parts-5 : tie.Need-slice-aggregate-run-parts-5
+slice-aggregate-run-parts-5 c = search needs
+
+slice-aggregate-run-parts-6 : tie.Need-slice-aggregate-run-parts-6
+slice-aggregate-run-parts-6 c = search needs
+
+slice-aggregate-run-parts-7 : tie.Need-slice-aggregate-run-parts-7
+slice-aggregate-run-parts-7 c = search needs
+
+slice-aggregate-run-parts-8 : tie.Need-slice-aggregate-run-parts-8
+slice-aggregate-run-parts-8 c = search needs
+
+run-parts-requires : tie.Need-run-parts-requires
+run-parts-requires c κs = search needs
+
+enum-known-pictured : tie.Need-enum-known-pictured
+enum-known-pictured c = search needs
+
+slice-aggregate-put-ended : tie.Need-slice-aggregate-put-ended
+slice-aggregate-put-ended c = search needs
+
+slice-aggregate-put-ended-2 : tie.Need-slice-aggregate-put-ended-2
+slice-aggregate-put-ended-2 c = search needs
+
+slice-aggregate-put-ended-3 : tie.Need-slice-aggregate-put-ended-3
+slice-aggregate-put-ended-3 c = search needs
+
+slice-aggregate-put-ended-4 : tie.Need-slice-aggregate-put-ended-4
+slice-aggregate-put-ended-4 c = search needs
+
+put-ended-requires : tie.Need-put-ended-requires
+put-ended-requires c κs =
+    let v = c .before .before .before .before .before .before .before .before in
+    let s = v .before .before .before .before .before .before .before .before .before .before .before .before .before .before .before .before .before .before .before in
+    printable-end (content s) (s .pre .1 .said) fresh-sized (sized v) (rw (c .before .before .before .before .before .before .pictured .given .1) at (v .before .before .before .before .before .before .before .before .run-parts .ensures)) _ (s .pre .0)
+
+enum-known-pictured-2 : tie.Need-enum-known-pictured-2
+enum-known-pictured-2 c = search needs
+
+cast-put-refusal : tie.Need-cast-put-refusal
+cast-put-refusal c = search needs
+
+put-refusal-requires : tie.Need-put-refusal-requires
+put-refusal-requires c κs = search needs
+
+same-length : tie.Need-same-length
+same-length c = search needs
+
+returns : tie.Need-returns
+returns c =
+    let v = c .before .before .before .before .before .before .before .before .before .before .before in
+    let s = v .before .before .before .before .before .before .before .before .before .before .before .before .before .before .before .before .before .before .before in
+    prints-end (content s) (s .pre .1 .said) fresh-sized (sized v) (rw (c .before .before .before .before .before .before .before .before .before .pictured .given .1) at (v .before .before .before .before .before .before .before .before .run-parts .ensures))
+    (c .before .before .put-ended .ensures)
+
+same-length-2 : tie.Need-same-length-2
+same-length-2 c = search needs
+
+returns-2 : tie.Need-returns-2
+returns-2 c =
+    let v = c .before .before .before .before .before .before .before in
+    let s = v .before .before .before .before .before .before .before .before .before .before .before .before .before .before .before .before .before .before .before in
+    prints-refusal (content s) (s .pre .1 .said) {l′ = lent-after v} fresh-sized (rw (c .before .before .before .before .before .pictured2 .given .1) at (v .before .before .before .before .before .before .before .before .run-parts .ensures))
+    (c .before .before .put-refusal .ensures)
+
+pub run-job-spec : {M : Type 1} → statement M
+run-job-spec =
+    tie.close
+    (tie.spec
+    slice-aggregate-run-parts
+    slice-aggregate-run-parts-2
+    slice-aggregate-run-parts-3
+    slice-aggregate-run-parts-4
+    slice-aggregate-run-parts-5
+    slice-aggregate-run-parts-6
+    slice-aggregate-run-parts-7
+    slice-aggregate-run-parts-8
+    run-parts-requires
+    enum-known-pictured
+    slice-aggregate-put-ended
+    slice-aggregate-put-ended-2
+    slice-aggregate-put-ended-3
+    slice-aggregate-put-ended-4
+    put-ended-requires
+    enum-known-pictured-2
+    cast-put-refusal
+    put-refusal-requires
+    same-length
+    returns
+    same-length-2
+    returns-2)

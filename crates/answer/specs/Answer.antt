@@ -1,0 +1,75 @@
+-- What the run program prints for a job (document 01, "The run program"). Assumes nothing.
+use mathlib.Core.Path.{_≡_}
+use mathlib.Core.List.{List, [], _∷_}
+use Prim.Native.Nat.{ℕ, suc, _*_, _/_, _%_, _<_, _≤_}
+use lib.ListN.{length}
+use Rattle.base.specs.Lent.{lent}
+use Rattle.base.specs.Numbers.{Numbers, numbers}
+use Rattle.colour.specs.Label.{labelOf}
+use Rattle.picture.specs.Picture.{Picture, colsOf, codels, codelColour}
+use Rattle.region.specs.Grid.{gridOf}
+use Rattle.region.specs.Region.{IsMap}
+use Rattle.region.specs.Rows.{First}
+use Rattle.machine.specs.Machine.{statusOf}
+use Rattle.interpreter.specs.Run.{End}
+use Rattle.piet.specs.Follows.{Given, Follows}
+use Rattle.piet.specs.RunPicture.{Asked, asked, seen, refusal}
+use Rattle.job.specs.Encoding.{Content, IsJob}
+use Rattle.report.specs.Text.{resultText, refusalText}
+
+-- what a job asks of a run: "Setting 0"
+abbrev pub askedOf : Content → Asked
+askedOf c = asked (c .pixels) (c .height) (c .width) 0 (c .codel) (c .limit) (c .abstracted) (c .input)
+
+-- the picture of a job
+abbrev pub pictureOf : Content → Picture
+pictureOf c = seen (askedOf c)
+
+-- "the refusals of classifying, then of building"; "room for 512 pixels", and so for the table of 512 codels
+abbrev pub refusalOf : Content → Numbers
+refusalOf c = refusal (askedOf c) 512 512 2560 4096 512
+
+-- "256 stack cells, 256 outputs"
+abbrev pub givenOf : Content → Given
+givenOf c = record { mode = c .abstracted; input = c .input; stackRoom = 256; outRoom = 256 }
+
+-- the label of region r: that of its first codel, whose top left pixel is the region's first pixel
+pub record Labels (p : Picture) (map : List ℕ) (r : ℕ) (label : List ℕ) : Type 0 where
+  pub first : ℕ
+  pub is-first : First map (codels p) r first
+  pub is : label ≡ labelOf (codelColour p first) (first / colsOf p * p .codel) (first % colsOf p * p .codel)
+
+-- a run of the job's picture ends in e, at a region of that label; the regions are numbered in the map by their first codels
+pub record Ran (c : Content) (map : List ℕ) (e : End) (label : List ℕ) : Type 0 where
+  pub regions : ℕ
+  pub long : length map ≡ codels (pictureOf c)
+  pub numbered : IsMap (gridOf (pictureOf c)) map regions
+  pub follows : Follows (pictureOf c) map (givenOf c) (c .limit) e
+  pub labelled : Labels (pictureOf c) map (e .at .region) label
+
+-- status, steps, label, dp, cc, stack and outputs of an end
+abbrev pub endText : End → List ℕ → List ℕ
+endText e label =
+    resultText (statusOf (e .stop)) (e .at .steps) label (e .at .store .pointers .dp) (e .at .store .pointers .cc) (e .at .store .stack)
+    (e .at .store .outs)
+
+-- the text that is printed for a list of bytes
+pub data Answers (job : List ℕ) : List ℕ → Type 0 where
+  -- "anything else is 11, tested first"
+  no-job : ((c : Content) → IsJob job c → ⊥) → Answers job (refusalText 11)
+  -- "A refusal prints `refused N`"
+  refused : (c : Content) → IsJob job c → (k : ℕ) (v : List ℕ) → refusalOf c ≡ numbers (suc k) v → Answers job (refusalText (suc k))
+  ran : (c : Content) → IsJob job c → refusalOf c ≡ numbers 0 (0 ∷ 0 ∷ []) → (map : List ℕ) (e : End) (label : List ℕ) → Ran c map e label
+      → Answers job (endText e label)
+
+-- the text stands at the start of what is lent, the rest is as it was, and r is the text's length
+pub record Prints (job before : List ℕ) (r : ℕ) (after : List ℕ) : Type 0 where
+  pub text : List ℕ
+  pub answers : Answers job text
+  pub size : r ≡ length text
+  pub list : after ≡ lent text before
+
+-- what a call answers and leaves: nothing where there is too little room for the longest text
+pub data Outcome (job before : List ℕ) (r : ℕ) (after : List ℕ) : Type 0 where
+  short : length before < 16384 → r ≡ 0 → after ≡ before → Outcome job before r after
+  printed : 16384 ≤ length before → Prints job before r after → Outcome job before r after

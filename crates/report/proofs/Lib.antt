@@ -1,0 +1,6 @@
+-- Laws that belong to no one function.
+pub mod Writing
+pub mod Partly
+pub mod TextLaws
+pub mod Only
+pub mod Examples

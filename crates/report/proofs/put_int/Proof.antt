@@ -1,0 +1,89 @@
+-- `report::put_int` meets its contract: a sign where the number is below 0, and its size.
+-- Assumes nothing.
+use mathlib.Core.Path.{_≡_, _∙_, sym, ap, refl}
+use mathlib.Core.Bool.{true, false}
+use mathlib.Core.List.{List, _++_}
+use Prim.Native.Nat.{ℕ, suc}
+use native.Mathlib.Omega.{arith}
+use borrow.Author.Tests.{ltb-true}
+use lib.IntN.{ℤ, pos, negsuc, natAbs}
+use lib.Signed.{ltZ}
+use mir.Syntax.{w64}
+use mir.Val.{SFits, toZ, ofZ}
+use mir.ValLaws.{toZ-ofZ}
+use Rattle.base.specs.Text.{ascii, decimal}
+use Rattle.report.specs.Text.{int}
+use Rattle.report.proofs.Writing.{room-front, room-back, put-then}
+use borrow.Author.Needs.{needs}
+use Rattle.report.proofs.put_int.Statement.{statement}
+use Rattle.report.proofs.put_int.Tie as tie
+
+-- a number below 0 is written with a sign, and no other
+signed : (v : ℤ) (n : ℕ) → ltZ v (pos 0) ≡ true → n ≡ natAbs v → int v ≡ ascii "-" ++ decimal n
+unfolding int
+signed (pos k) n e h = absurd (omega (arith, ltb-true k 0 e))
+signed (negsuc k) n e h = rw h
+
+unsigned : (v : ℤ) (n : ℕ) → ltZ v (pos 0) ≡ false → n ≡ natAbs v → int v ≡ decimal n
+unfolding int
+unsigned (pos k) n e h = rw h
+unsigned (negsuc k) n e h = absurd (let z : _≡_ {A = ℕ} 0 1 = cc in omega arith)
+
+below : (c : tie.Then1) → let s = c .before .before .before in int (s .args .v) ≡ ascii "-" ++ decimal (c .before .size .result)
+below c =
+    let s = c .before .before .before in
+    let e = toZ-ofZ w64 (s .args .v) (s .fits .v) in
+    signed (s .args .v) (c .before .size .result) (rw e at (c .if1 .taken)) (rw e at (c .before .size .ensures))
+
+above : (c : tie.Else1) → let s = c .before .before .before in int (s .args .v) ≡ decimal (c .before .size .result)
+above c =
+    let s = c .before .before .before in
+    let e = toZ-ofZ w64 (s .args .v) (s .fits .v) in
+    unsigned (s .args .v) (c .before .size .result) (rw e at (c .if1 .left)) (rw e at (c .before .size .ensures))
+
+size-requires : tie.Need-size-requires
+size-requires c κs = search needs
+
+slice-aggregate-put-word : tie.Need-slice-aggregate-put-word
+slice-aggregate-put-word c = search needs
+
+put-word-requires : tie.Need-put-word-requires
+put-word-requires c κs =
+    let h = rw (below (c .before .before)) at (c .before .before .before .before .before .pre) in
+    room-front (ascii "-") (decimal (c .before .before .before .size .result)) h
+
+put-number-requires : tie.Need-put-number-requires
+put-number-requires c κs =
+    let h = rw (below (c .before .before .before .before .before .before)) at (c .before .before .before .before .before .before .before .before .before .pre) in
+    room-back (ascii "-") (decimal (c .before .before .before .before .before .before .before .size .result)) h (c .before .before .before .put-word .ensures)
+
+same-length : tie.Need-same-length
+same-length c = search needs
+
+returns : tie.Need-returns
+returns c =
+    let h = rw (below (c .before .before .before .before .before .before .before .before .before)) at (c .before .before .before .before .before .before .before .before .before .before .before .before .pre) in
+    rw (below (c .before .before .before .before .before .before .before .before .before)) (put-then h (c .before .before .before .before .before .before .put-word .ensures) (c .before .before .put-number .ensures))
+
+put-number-requires-2 : tie.Need-put-number-requires-2
+put-number-requires-2 c κs = rw (above (c .before)) at (c .before .before .before .before .pre)
+
+same-length-2 : tie.Need-same-length-2
+same-length-2 c = search needs
+
+returns-2 : tie.Need-returns-2
+returns-2 c = rw (above (c .before .before .before .before)) (c .before .before .put-number2 .ensures)
+
+pub put-int-spec : {M : Type 1} → statement M
+put-int-spec =
+    tie.close
+    (tie.spec
+    size-requires
+    slice-aggregate-put-word
+    put-word-requires
+    put-number-requires
+    same-length
+    returns
+    put-number-requires-2
+    same-length-2
+    returns-2)
