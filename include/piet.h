@@ -42,7 +42,7 @@ enum piet_refusal {
     PIET_REFUSED_GRID = 7,     /* more than 65,536 codels */
     PIET_REFUSED_COLOUR = 8,   /* a colour number above 19; its index */
     PIET_REFUSED_WHITE = 9,    /* pixel (0,0) is white, and a run can't start there */
-    PIET_REFUSED_TABLE = 10,   /* no table of a picture: see piet_run */
+    PIET_REFUSED_TABLE = 10,   /* not a valid table: see piet_run */
     PIET_REFUSED_LABEL = 12    /* colour above 19, row or column above 1,023, or under 22 bytes lent */
 };
 
@@ -68,6 +68,19 @@ enum piet_colour {
     PIET_LIGHT_MAGENTA = 17,
     PIET_BLACK = 18,
     PIET_WHITE = 19
+};
+
+/* The pointers; a pointer state is 2 x dp + cc. */
+enum piet_dp {
+    PIET_DP_RIGHT = 0,
+    PIET_DP_DOWN = 1,
+    PIET_DP_LEFT = 2,
+    PIET_DP_UP = 3
+};
+
+enum piet_cc {
+    PIET_CC_LEFT = 0,
+    PIET_CC_RIGHT = 1
 };
 
 /* What becomes of a pixel that is none of the twenty colours. */
@@ -154,7 +167,7 @@ uint32_t piet_classify(const uint8_t *pixels, size_t pixels_length,
  *   colours   height x width colour numbers, one a pixel; a codel has the colour of its top left pixel
  *   map       room for G: the region of each codel, row by row; regions are numbered from 0 by their first codel
  *   rows      room for 5 x G: five cells a region: colour, size in codels, row and column of its first pixel, 1 for
- *             a node (a region that is found from region 0) else 0
+ *             a node (a region that is found from region 0 and is not white) else 0
  *   exits     room for 8 x G: eight cells a region, by pointer state 2 x dp + cc (dp right, down, left, up 0 to 3;
  *             cc left, right 0, 1): 0 where the region is no node or the attempt is not open, else as PIET_EXIT_TARGET,
  *             PIET_EXIT_STATE and PIET_EXIT_INSTRUCTION read it

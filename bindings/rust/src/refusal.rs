@@ -72,7 +72,7 @@ impl fmt::Display for Refusal {
             Refusal::Grid => write!(f, "more than 65,536 codels"),
             Refusal::Colour { index } => write!(f, "the colour number at index {index} is above 19"),
             Refusal::White => write!(f, "pixel (0,0) is white"),
-            Refusal::Table => write!(f, "no table of a picture"),
+            Refusal::Table => write!(f, "not a valid table"),
             Refusal::Label => write!(f, "no such label, or under 22 bytes for it"),
         }
     }

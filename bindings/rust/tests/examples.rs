@@ -13,7 +13,7 @@ fn jobs() -> Vec<PathBuf> {
     paths.filter(|path| path.extension().is_some_and(|e| e == "job")).collect()
 }
 
-/// The body of the first record, and what follows it. The examples are all well formed.
+/// The body of the first record, and what follows it. What is no job does not come to the library.
 fn record(bytes: &[u8]) -> (&[u8], &[u8]) {
     let length = u32::from_le_bytes(bytes[..4].try_into().expect("four bytes"));
     bytes[6..].split_at(length as usize)
@@ -33,12 +33,17 @@ fn answer(job: &[u8]) -> String {
     }
 }
 
+fn expected(path: &Path) -> String {
+    fs::read_to_string(path.with_extension("out")).expect("an expected answer")
+}
+
 #[test]
 fn examples() {
-    let jobs = jobs();
-    assert!(jobs.len() >= 9, "found {} examples", jobs.len());
+    let (none, jobs): (Vec<_>, Vec<_>) =
+        jobs().into_iter().partition(|path| expected(path) == "refused 11\n");
+    assert!(jobs.len() >= 9 && none.len() == 1, "found {} and {}", jobs.len(), none.len());
     for path in jobs {
-        let expected = fs::read_to_string(path.with_extension("out")).expect("an expected answer");
-        assert_eq!(answer(&fs::read(&path).expect("a job")), expected, "{}", path.display());
+        let job = fs::read(&path).expect("a job");
+        assert_eq!(answer(&job), expected(&path), "{}", path.display());
     }
 }

@@ -1,5 +1,5 @@
 -- From what a run of a job's picture answers to what is printed. Assumes nothing.
-use mathlib.Core.Path.{_≡_, refl, sym, ap, subst, _∙_}
+use mathlib.Core.Path.{_≡_, refl, sym, ap, _∙_}
 use mathlib.Core.List.{List, [], _∷_}
 use Prim.Native.Nat.{ℕ, suc, _+_, _≤_}
 use native.Mathlib.Omega.{arith}
@@ -17,7 +17,7 @@ use Rattle.piet.specs.RunPicture.{Asked, Lends, Runs}
 use Rattle.piet.specs.RunPicture as running
 use Rattle.job.specs.Encoding.{Content, IsJob}
 use Rattle.report.specs.Text.{refusalText}
-use Rattle.answer.specs.Answer.{askedOf, refusalOf, Answers, no-job, refused, ran, Prints, Outcome, short, printed}
+use Rattle.answer.specs.Answer.{askedOf, refusalOf, Answers, refused, ran, Prints, Outcome, short, printed}
 use Rattle.answer.specs.Printing.{linesOf, Printable}
 use Rattle.answer.proofs.Ending.{Sized, same-refusal, printable, lines-are, ran-so}
 

@@ -1,7 +1,7 @@
 -- What a run of a job's picture leaves can be printed, and what is printed is its end. Assumes nothing.
 use mathlib.Core.Path.{_≡_, refl, sym, ap, _∙_}
 use mathlib.Core.List.{List, [], _∷_}
-use Prim.Native.Nat.{ℕ, zero, suc, _+_, _*_, _/_, _%_, _<_, _≤_}
+use Prim.Native.Nat.{ℕ, zero, suc, _*_, _/_, _%_, _<_, _≤_}
 use native.Mathlib.Nat.{not-suc-le-zero, le-of-suc-le-suc}
 use native.Mathlib.Omega.{arith}
 use borrow.Author.Tests.{lt-ltb, le-ltb}
@@ -10,7 +10,6 @@ use lib.ListN.{length, getD, take, replicate}
 use lib.Seq.{getD-take}
 use Rattle.base.specs.Numbers.{numbers}
 use Rattle.base.proofs.Tests.{by-size}
-use Rattle.colour.specs.Label.{labelOf}
 use Rattle.picture.specs.Picture.{Picture, colsOf, codels, codelColour}
 use Rattle.picture.proofs.Codels.{inside-of, row-in, col-in}
 use Rattle.region.specs.Grid.{gridOf}
@@ -19,17 +18,16 @@ use Rattle.table.specs.Layout.{rowCell, rowsRoom, colourField, rowField, column
 use Rattle.cfg.specs.Build.{legalFirst, Enough}
 use Rattle.cfg.specs.Table.{Row}
 use Rattle.cfg.proofs.Refusing as building
-use Rattle.machine.specs.Held.{Lent, lent}
+use Rattle.machine.specs.Held.{Lent}
 use Rattle.interpreter.specs.Run.{End}
 use Rattle.interpreter.specs.Outcome.{lentOf, endedOf}
-use Rattle.piet.specs.Follows.{Follows}
 use Rattle.piet.specs.RunPicture.{Lends, lends, Runs, given}
 use Rattle.piet.specs.RunPicture as running
 use Rattle.piet.proofs.Refusing as picture
 use Rattle.piet.proofs.Seeing.{legal-shades}
 use Rattle.job.specs.Encoding.{Content}
-use Rattle.answer.specs.Answer.{askedOf, pictureOf, refusalOf, givenOf, Labels, Ran, endText}
-use Rattle.answer.specs.Printing.{Legal, HasLabel, labelIn, linesOf, Printable}
+use Rattle.answer.specs.Answer.{askedOf, pictureOf, refusalOf, givenOf, Ran, endText}
+use Rattle.answer.specs.Printing.{HasLabel, labelIn, linesOf, Printable}
 use Rattle.answer.proofs.Slices.{stack-back, stack-few, outs-back, outs-few}
 
 -- the room that the run program lends

@@ -19,7 +19,7 @@ use Rattle.piet.proofs.FollowsOnly.{picture-only}
 use Rattle.job.specs.Encoding.{Content}
 use Rattle.job.proofs.Only.{content-only}
 use Rattle.report.specs.Text.{refusalText}
-use Rattle.answer.specs.Answer.{pictureOf, refusalOf, givenOf, Labels, Ran, endText, Answers, no-job, refused, ran, Prints, Outcome, short, printed}
+use Rattle.answer.specs.Answer.{pictureOf, refusalOf, givenOf, Labels, Ran, endText, Answers, no-job, refused, ran, Outcome, short, printed}
 use Rattle.answer.proofs.Ending.{enough}
 
 labels-only : {p : Picture} {map : List ℕ} {r : ℕ} {x y : List ℕ} → Labels p map r x → Labels p map r y → x ≡ y

@@ -14,7 +14,9 @@ use Rattle.machine.specs.Machine.{statusOf}
 use Rattle.interpreter.specs.Run.{End}
 use Rattle.piet.specs.Follows.{Given, Follows}
 use Rattle.piet.specs.RunPicture.{Asked, asked, seen, refusal}
+use Rattle.job.specs.declared.Job.the-variants.{Refused}
 use Rattle.job.specs.Encoding.{Content, IsJob}
+use Rattle.job.specs.Outcome as reading
 use Rattle.report.specs.Text.{resultText, refusalText}
 
 -- what a job asks of a run: "Setting 0"
@@ -56,7 +58,7 @@ endText e label =
 -- the text that is printed for a list of bytes
 pub data Answers (job : List ℕ) : List ℕ → Type 0 where
   -- "anything else is 11, tested first"
-  no-job : ((c : Content) → IsJob job c → ⊥) → Answers job (refusalText 11)
+  no-job : ((c : Content) → IsJob job c → ⊥) → Answers job (refusalText (reading.numbered Refused))
   -- "A refusal prints `refused N`"
   refused : (c : Content) → IsJob job c → (k : ℕ) (v : List ℕ) → refusalOf c ≡ numbers (suc k) v → Answers job (refusalText (suc k))
   ran : (c : Content) → IsJob job c → refusalOf c ≡ numbers 0 (0 ∷ 0 ∷ []) → (map : List ℕ) (e : End) (label : List ℕ) → Ran c map e label

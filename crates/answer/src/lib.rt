@@ -1,5 +1,4 @@
 // The run program's answer to a job: the text that it prints, in a lent slice.
-ghost use mathlib.Core.Path.{_≡_};
 ghost use Prim.Native.Nat.{_≤_};
 ghost use lib.ListN.{length};
 ghost use Rattle.base.specs.Lent.{Put};

@@ -10,3 +10,4 @@ pub mod Stages
 pub mod Refusing
 pub mod Leads
 pub mod Ahead
+pub mod Black

@@ -1,6 +1,7 @@
 // Building: the checks of document 01 in its order, and then the table.
 use crate::filling::fill_table;
 use base::limits::wrong_side;
+use colour::palette::WHITE;
 use picture::shape::Shape;
 use picture::shape::shape_of;
 use table::exits_room;
@@ -98,7 +99,7 @@ fn check(
     if index < pixels {
         return Built::Colour { index };
     }
-    if colours[0] == 19 {
+    if colours[0] == WHITE {
         return Built::White;
     }
     if too_short(count, map, rows, exits, work) {

@@ -9,7 +9,7 @@ use table::MARK;
 use table::exit_cell;
 use table::row_cell;
 
-// Whether region r is marked and not white.
+// Whether region r is marked and not white (19).
 fn is_node(rows: &[u32], r: usize) -> bool
     requires { ⌜ rowsRoom r + 5 ≤ length (now rows) ⌝ }
     requires { ⌜ r < 65536 ⌝ }

@@ -21,12 +21,7 @@ use table::MARK;
 use table::exit_cell;
 use table::exit_number;
 use table::row_cell;
-
-fn wide(x: u32) -> usize
-    ensures { λ r. ⌜ r ≡ x ⌝ }
-{
-    x as usize
-}
+use table::wide;
 
 // Marks region q and puts it at the queue's tail, where it has no mark. Returns the new tail.
 fn visit(q: usize, rows: &mut [u32], work: &mut [u32], tail: usize) -> usize

@@ -17,7 +17,9 @@ ghost use Rattle.colour.specs.Classify.{
   shade,
   shades,
 };
+use crate::palette::BLACK;
 use crate::palette::Found;
+use crate::palette::WHITE;
 use crate::palette::colour_of;
 use base::limits::wrong_side;
 
@@ -29,6 +31,42 @@ pub enum Classified {
     Bytes,
     Room,
     Pixel { row: usize, column: usize },
+}
+
+// An answer in document 01's numbers: the number, and the place of an unknown pixel, zeros where there is none.
+pub struct Told {
+    pub number: u32,
+    pub row: usize,
+    pub column: usize,
+}
+
+// A number without a place.
+pub fn placeless(number: u32) -> Told
+    ensures { λ r. ⌜ numbers (r .number) (r .row ∷ r .column ∷ []) ≡ numbers number (0 ∷ 0 ∷ []) ⌝ }
+{
+    Told {
+        number,
+        row: 0,
+        column: 0,
+    }
+}
+
+// `run_picture` and the C call both answer by it.
+pub fn in_numbers(r: Classified) -> Told
+    ensures { λ t. ⌜ numbers (t .number) (t .row ∷ t .column ∷ []) ≡ numbered r ⌝ }
+{
+    match r {
+        Classified::Done => placeless(0),
+        Classified::Size => placeless(1),
+        Classified::Bytes => placeless(2),
+        Classified::Setting => placeless(3),
+        Classified::Room => placeless(4),
+        Classified::Pixel { row, column } => Told {
+            number: 5,
+            row,
+            column,
+        },
+    }
 }
 
 // What the table says of pixel i.
@@ -98,13 +136,13 @@ pub fn check(pixels: &[u8], height: usize, width: usize, setting: u8, room: usiz
     first_unknown(pixels, n, width)
 }
 
-// The colour number that a setting makes of what the table says: white is 19, black 18.
+// The colour number that a setting makes of what the table says.
 pub fn shade_of(setting: u8, f: Found) -> u8
     ensures { λ r. ⌜ r ≡ shade setting f ⌝ }
 {
     match f {
         Found::Known(c) => c,
-        Found::Unknown => { if setting == 2 { 19 } else { 18 } }
+        Found::Unknown => { if setting == 2 { WHITE } else { BLACK } }
     }
 }
 

@@ -4,6 +4,8 @@ ghost use Prim.Native.Nat.{_+_, _≤_};
 ghost use lib.ListN.{length};
 ghost use Rattle.base.specs.Lent.{Put};
 ghost use Rattle.colour.specs.Label.{lightnessName, hueName, name, place, isEntry, labelOf, refused, Outcome};
+use crate::palette::BLACK;
+use crate::palette::WHITE;
 use base::fill::fill_u8;
 use base::put::put_number;
 use base::put::put_word;
@@ -46,10 +48,10 @@ fn put_name(out: &mut [u8], colour: u8) -> usize
     requires { ⌜ 12 ≤ length (now out) ⌝ }
     ensures { λ r. ⌜ Put (now (out .entry)) 0 (name colour) r (now (out .exit)) ⌝ }
 {
-    if colour == 18 {
+    if colour == BLACK {
         return put_word(out, 0, b"Black");
     }
-    if colour == 19 {
+    if colour == WHITE {
         return put_word(out, 0, b"White");
     }
     let at = put_lightness(out, colour / 6);

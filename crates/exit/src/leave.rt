@@ -7,6 +7,7 @@ ghost use Rattle.flow.specs.Pointer.{Valid};
 ghost use Rattle.exit.specs.Leaving.{reach, beats};
 ghost use Rattle.exit.specs.Keeping.{Mapped, Cells, Kept, AllKept, better, kept};
 use flow::PointerState;
+use table::wide;
 
 // How many codels of its row or column lie behind codel i of the grid, facing d.
 fn reach_of(rows: usize, cols: usize, d: u8, i: usize) -> usize
@@ -41,13 +42,6 @@ fn beats_codel(rows: usize, cols: usize, s: PointerState, i: usize, j: usize) ->
     let a = reach_of(rows, cols, side, i);
     let b = reach_of(rows, cols, side, j);
     b < a
-}
-
-// A u32 read from a slice, as an index.
-fn wide(x: u32) -> usize
-    ensures { λ r. ⌜ r ≡ x ⌝ }
-{
-    x as usize
 }
 
 // Of codel i and the one kept so far: i, where j is of another region or beaten. So no cell has to say that it is

@@ -3,14 +3,11 @@ ghost use mathlib.Core.Path.{_≡_};
 ghost use Rattle.flow.specs.Pointer.{Valid};
 ghost use Rattle.picture.specs.Picture.{pictureOf, Frames, Inside};
 ghost use Rattle.exit.specs.Slide.{lookOf, Slide};
+use colour::palette::BLACK;
+use colour::palette::WHITE;
 use flow::Next;
 use flow::PointerState;
 use picture::shape::Shape;
-
-// Document 01's numbers of the two colours that are in neither cycle.
-const BLACK: u8 = 18;
-
-const WHITE: u8 = 19;
 
 // "At the eighth turn, counted over the whole slide, the attempt is not open."
 const LAST_TURN: u8 = 8;

@@ -63,7 +63,8 @@ impl PointerState {
         }
     }
 
-    // Which of the eight attempts from self tries target (`find_offset`).
+    // Which of the eight attempts from self tries target: the Rust's `find_offset`. The code goes the other way, by
+    // `attempt`; that the two are inverse is what makes its order the Rust's.
     pub fn offset(self, target: PointerState) -> u8
         requires { ⌜ Valid self × Valid target ⌝ }
         ensures { λ r. ⌜ r ≡ offsetOf self target ⌝ }

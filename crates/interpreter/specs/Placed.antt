@@ -6,8 +6,11 @@ use Prim.Native.Nat.{ℕ, _+_, _-_, _<_}
 use Rattle.machine.specs.Held.{Lent, storeOf, Stands}
 use Rattle.interpreter.specs.declared.State.{State}
 use Rattle.interpreter.specs.declared.Ended.{Ended}
+use Rattle.interpreter.specs.declared.Ran.{Ran}
+use Rattle.interpreter.specs.declared.Ran.the-variants.{Refused, Finished}
 use Rattle.interpreter.specs.declared.Moved.{Moved}
 use Rattle.interpreter.specs.declared.Moved.the-variants.{To, Halted}
+use Rattle.interpreter.specs.Table.{Good}
 use Rattle.interpreter.specs.Run.{Machine, Next, goes, halts, End, through, stepOf, runOf, start}
 use Rattle.interpreter.specs.Outcome.{jobOf}
 
@@ -52,3 +55,8 @@ Resumed n rows exits limit mode input l from l′ r = Reaches n (runOf (jobOf ro
 
 abbrev pub Started : ℕ → List ℕ → List ℕ → ℕ → Bool → List ℕ → Lent → Lent → Ended → Type 0
 Started n rows exits limit mode input l l′ r = Reaches n (runOf (jobOf rows exits mode input l) limit start) l′ r
+
+-- where a run ended it may be taken up again: what `resume` asks for holds there
+abbrev pub Resumable : ℕ → List ℕ → List ℕ → Ran → Lent → Type 0
+Resumable n rows exits Refused l = Unit {0}
+Resumable n rows exits (Finished e) l = Good n rows exits × Placed n l (e .at)

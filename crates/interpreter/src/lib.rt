@@ -9,7 +9,7 @@ ghost use Rattle.table.specs.ExitNumber.{targetOf};
 ghost use Rattle.machine.specs.Held.{lent};
 ghost use Rattle.interpreter.specs.Table.{exitOf, any, every, wrongMark, wrongExit, validOf, Good};
 ghost use Rattle.interpreter.specs.Forever.{closed, onward, foreverOf};
-ghost use Rattle.interpreter.specs.Placed.{Placed, Gone, Stepped, Resumed, Started};
+ghost use Rattle.interpreter.specs.Placed.{Placed, Gone, Stepped, Resumed, Started, Resumable};
 ghost use Rattle.interpreter.specs.Outcome.{outcome, outcomeOf};
 use base::fill::fill_i64;
 use base::fill::fill_u8;
@@ -331,6 +331,7 @@ pub fn run(
     values: &mut [i64],
 ) -> Ran
     ensures { λ r. ⌜ outcome r (now (stack .exit)) (now (kinds .exit)) (now (values .exit)) ≡ outcomeOf n (now (rows .entry)) (now (exits .entry)) limit «abstract_mode» (now (input .entry)) (lent (now (stack .entry)) (now (kinds .entry)) (now (values .entry))) ⌝ }
+    ensures { λ r. ⌜ Resumable n (now (rows .entry)) (now (exits .entry)) r (lent (now (stack .exit)) (now (kinds .exit)) (now (values .exit))) ⌝ }
 {
     let ok = valid(n, rows, exits);
     if !ok {

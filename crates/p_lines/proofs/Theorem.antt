@@ -9,8 +9,8 @@ use Rattle.text.specs.Range.{within}
 use Rattle.text.specs.Utf8.{scalar}
 use Rattle.stack.specs.Instr.{roll, rolled, places, turn}
 use Rattle.machine.specs.Output.{char}
-use Rattle.p_lines.specs.Table.{PLine, answer, pLines}
+use Rattle.p_lines.specs.Table.{PLine, emitted, answer, pLines}
 
 pub p-lines : map (λ (l : PLine). answer (l .asks)) pLines ≡ map (λ (l : PLine). l .says) pLines
-unfolding residue signed64 wrap isZero quotient remainder decodeOf attemptOf roll rolled places turn char scalar within
+unfolding residue signed64 wrap isZero quotient remainder decodeOf attemptOf roll rolled places turn char scalar within emitted
 p-lines = refl

@@ -23,6 +23,11 @@ pub data Question : Type 0 where
   -- the top before CharOut
   charOutOf : ℤ → Question
 
+-- outputs as numbers: of each its kind (1 char, 2 int) and its value
+unfoldable pub emitted : List Emit → List ℤ
+emitted [] = []
+emitted (e ∷ es) = pos (e .kind) ∷ e .value ∷ emitted es
+
 -- what the definitions say
 abbrev pub answer : Question → List ℤ
 answer (orderFrom s) = map (λ k. pos (numberOf (attemptOf (ofNumber s) k))) (0 ∷ 1 ∷ 2 ∷ 3 ∷ 4 ∷ 5 ∷ 6 ∷ 7 ∷ [])
@@ -31,7 +36,7 @@ answer (modOf b a) = remainder b a
 answer (divOf b a) = quotient b a
 answer (addOf b a) = wrap (b +ℤ a) ∷ []
 answer (rollOf s) = roll s
-answer (charOutOf v) = map (λ (e : Emit). e .value) (charOut v)
+answer (charOutOf v) = emitted (charOut v)
 
 pub record PLine : Type 0 where
   pub asks : Question
@@ -59,6 +64,6 @@ pLines =
     ∷ line (addOf (pos 9223372036854775807) (pos 1)) (negsuc 9223372036854775807 ∷ [])
     ∷ line (rollOf (these (1 ∷ 2 ∷ 6 ∷ 5 ∷ []))) (these (5 ∷ 6 ∷ []))
     ∷ line (rollOf (negsuc 0 ∷ these (3 ∷ 6 ∷ 5 ∷ 4 ∷ []))) (these (4 ∷ 6 ∷ 5 ∷ []))
-    ∷ line (charOutOf (pos 4294967361)) (these (65 ∷ []))
+    ∷ line (charOutOf (pos 4294967361)) (these (1 ∷ 65 ∷ []))
     ∷ line (charOutOf (pos 55296)) []
     ∷ []

@@ -1,6 +1,7 @@
-// Reading a picture (`program.rs`). `PietSource` is one small value that carries the colour slice with its sides. A function over such a struct is proved by
-// a walk of its code, so each one here only makes the struct or takes it apart; `get_at`, on the plain slice and numbers,
-// does the work, and `read_pixel` serves every other caller.
+// Reading a picture (`program.rs`). `PietSource` is one small value that carries the colour slice with its sides. A
+// function over such a struct is proved by a walk of its code, so each one here only makes the struct or takes it apart;
+// `get_at`, on the plain slice and numbers, does the work, and `read_pixel` serves every other caller. `dimensions` has no
+// caller here: it is `program.rs`'s own.
 pub mod shape;
 
 ghost use mathlib.Core.Path.{_≡_};

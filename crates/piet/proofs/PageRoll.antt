@@ -95,3 +95,8 @@ module _ (n : ℕ) (s : List ℤ) (some : 0 < n) (fits : n ≤ length s) where
       whole =
           let e : n - suc (k % n) + suc k ≡ suc (k / n) * n = omega (arith, div-add-mod' k n, suc-mul (k / n) n, mod-lt k some) in
           ap (λ (i : ℕ). i % n) e ∙ mul-mod-left (suc (k / n)) n
+
+-- a roll to depth 0: both values go, and nothing moves
+pub roll-none : (a : ℤ) (s : List ℤ) → Changes Roll (a ∷ pos 0 ∷ s) s
+unfolding exec Instr.roll Instr.places Instr.rolled
+roll-none a s mode input size m = rw (le-ltb (length s) 0 (omega arith))

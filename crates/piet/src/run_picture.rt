@@ -7,7 +7,6 @@ ghost use lib.ListN.{length, getD};
 ghost use Rattle.base.specs.Numbers.{numbers};
 ghost use Rattle.base.specs.Limits.{wrongSide};
 ghost use Rattle.picture.specs.Picture.{picture};
-ghost use Rattle.colour.specs.Classify as classifying;
 ghost use Rattle.colour.specs.Classify.{shades};
 ghost use Rattle.cfg.specs.Build as building;
 ghost use Rattle.machine.specs.Held.{lent};
@@ -18,9 +17,12 @@ use base::limits::wrong_side;
 use cfg::Built;
 use cfg::codel_count;
 use cfg::too_short;
-use colour::classify::Classified;
+use colour::classify::Told;
 use colour::classify::found_at;
+use colour::classify::in_numbers;
+use colour::classify::placeless;
 use colour::classify::shade_of;
+use colour::palette::WHITE;
 use interpreter::Ended;
 use interpreter::Ran;
 
@@ -32,40 +34,6 @@ pub enum Pictured {
         row: usize,
         column: usize,
     },
-}
-
-// What the tests came to: a refusal's number and place, zeros where there is none.
-struct Tested {
-    number: u32,
-    row: usize,
-    column: usize,
-}
-
-fn placeless(number: u32) -> Tested
-    ensures { λ r. ⌜ numbers (r .number) (r .row ∷ r .column ∷ []) ≡ numbers number (0 ∷ 0 ∷ []) ⌝ }
-{
-    Tested {
-        number,
-        row: 0,
-        column: 0,
-    }
-}
-
-fn of_classified(r: Classified) -> Tested
-    ensures { λ t. ⌜ numbers (t .number) (t .row ∷ t .column ∷ []) ≡ classifying.numbered r ⌝ }
-{
-    match r {
-        Classified::Done => placeless(0),
-        Classified::Size => placeless(1),
-        Classified::Bytes => placeless(2),
-        Classified::Setting => placeless(3),
-        Classified::Room => placeless(4),
-        Classified::Pixel { row, column } => Tested {
-            number: 5,
-            row,
-            column,
-        },
-    }
 }
 
 // The colour of the first pixel.
@@ -103,7 +71,7 @@ fn check_table(
     }
     let colour = first_colour(pixels, setting);
     let short = too_short(count, map, rows, exits, work);
-    if colour == 19 {
+    if colour == WHITE {
         return 9;
     }
     if short {
@@ -124,11 +92,11 @@ fn check(
     rows: usize,
     exits: usize,
     work: usize,
-) -> Tested
+) -> Told
     ensures { λ r. ⌜ ((limit : ℕ) (mode : Bool) (input : List ℕ) → numbers (r .number) (r .row ∷ r .column ∷ []) ≡ refusal (asked (now (pixels .entry)) height width setting codel limit mode input) colours map rows exits work) ⌝ }
 {
     let answer = colour::classify::check(pixels, height, width, setting, colours);
-    let tested = of_classified(answer);
+    let tested = in_numbers(answer);
     if tested.number != 0 {
         return tested;
     }

@@ -7,7 +7,6 @@ ghost use lib.ListN.{length};
 ghost use Rattle.base.specs.Lent.{lent};
 ghost use Rattle.base.specs.Numbers.{numbers};
 ghost use Rattle.picture.specs.Picture.{picture};
-ghost use Rattle.colour.specs.Classify as classifying;
 ghost use Rattle.colour.specs.Label as labelling;
 ghost use Rattle.cfg.specs.Build as building;
 ghost use Rattle.machine.specs.Held as held;
@@ -16,7 +15,7 @@ ghost use Rattle.interpreter.specs.Forever as always;
 ghost use Rattle.piet_c.specs.Exported.{Exported};
 ghost use Rattle.piet_c.specs.Calls.{Classifies, Labels, Builds, slices, Runs, Tells};
 use cfg::Built;
-use colour::classify::Classified;
+use colour::classify::in_numbers;
 use colour::label::Labelled;
 use interpreter::Ended;
 use interpreter::Forever;
@@ -76,43 +75,18 @@ fn put_eight(answer: &mut [u64], e: Eight)
     answer[7] = e.used;
 }
 
-fn of_classified(r: Classified) -> Two
-    ensures { λ t. ⌜ numbers (t .number) (t .first ∷ t .second ∷ []) ≡ classifying.numbered r ⌝ }
+// A number whose values are zeros.
+fn plain(number: u32) -> Two
+    ensures { λ t. ⌜ numbers (t .number) (t .first ∷ t .second ∷ []) ≡ numbers number (0 ∷ 0 ∷ []) ⌝ }
 {
-    match r {
-        Classified::Done => Two {
-            number: 0,
-            first: 0,
-            second: 0,
-        },
-        Classified::Size => Two {
-            number: 1,
-            first: 0,
-            second: 0,
-        },
-        Classified::Bytes => Two {
-            number: 2,
-            first: 0,
-            second: 0,
-        },
-        Classified::Setting => Two {
-            number: 3,
-            first: 0,
-            second: 0,
-        },
-        Classified::Room => Two {
-            number: 4,
-            first: 0,
-            second: 0,
-        },
-        Classified::Pixel { row, column } => Two {
-            number: 5,
-            first: row as u64,
-            second: column as u64,
-        },
+    Two {
+        number,
+        first: 0,
+        second: 0,
     }
 }
 
+// The count of regions is the first value, the index of a colour the second.
 fn of_built(r: Built) -> Two
     ensures { λ t. ⌜ numbers (t .number) (t .first ∷ t .second ∷ []) ≡ building.numbered r ⌝ }
 {
@@ -122,41 +96,17 @@ fn of_built(r: Built) -> Two
             first: regions as u64,
             second: 0,
         },
-        Built::Size => Two {
-            number: 1,
-            first: 0,
-            second: 0,
-        },
-        Built::Bytes => Two {
-            number: 2,
-            first: 0,
-            second: 0,
-        },
-        Built::Room => Two {
-            number: 4,
-            first: 0,
-            second: 0,
-        },
-        Built::Codel => Two {
-            number: 6,
-            first: 0,
-            second: 0,
-        },
-        Built::Grid => Two {
-            number: 7,
-            first: 0,
-            second: 0,
-        },
+        Built::Size => plain(1),
+        Built::Bytes => plain(2),
+        Built::Room => plain(4),
+        Built::Codel => plain(6),
+        Built::Grid => plain(7),
         Built::Colour { index } => Two {
             number: 8,
             first: 0,
             second: index as u64,
         },
-        Built::White => Two {
-            number: 9,
-            first: 0,
-            second: 0,
-        },
+        Built::White => plain(9),
     }
 }
 
@@ -190,8 +140,8 @@ pub extern "C" fn piet_classify(
     if answer.len() < 2 {
         return 4;
     }
-    let told = of_classified(colour::classify::classify(pixels, height, width, setting, colours));
-    put_two(answer, told.first, told.second);
+    let told = in_numbers(colour::classify::classify(pixels, height, width, setting, colours));
+    put_two(answer, told.row as u64, told.column as u64);
     told.number
 }
 

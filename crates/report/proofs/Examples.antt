@@ -1,8 +1,7 @@
 -- Document 01's answer, and the corners of numbers. Assumes nothing.
 use mathlib.Core.Path.{_≡_, refl}
-use mathlib.Core.List.{List, [], _∷_, _++_}
-use Prim.Native.Nat.{ℕ}
-use lib.IntN.{ℤ, pos, negsuc}
+use mathlib.Core.List.{[], _∷_, _++_}
+use lib.IntN.{pos, negsuc}
 use Rattle.base.specs.Text.{ascii, digits, decimal}
 use Rattle.report.specs.Text.{newline, int, value, values, item, items, line, placeLine, stackLine, outLine, resultText, refusalText}
 

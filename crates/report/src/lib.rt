@@ -36,19 +36,12 @@ pub struct Figures {
     pub outputs: usize,
 }
 
-// How far a number is from 0.
-fn size(v: i64) -> u64
-    ensures { λ r. ⌜ r ≡ natAbs v ⌝ }
-{
-    if v < 0 { (-1 - v) as u64 + 1 } else { v as u64 }
-}
-
 // A signed number in decimal.
 fn put_int(out: &mut [u8], at: usize, v: i64) -> usize
     requires { ⌜ Room (now out) at (int v) ⌝ }
     ensures { λ r. ⌜ Put (now (out .entry)) at (int v) r (now (out .exit)) ⌝ }
 {
-    let n = size(v);
+    let n = word::abs(v);
     if v < 0 {
         let next = put_word(out, at, b"-");
         return put_number(out, next, n);
@@ -65,6 +58,7 @@ fn put_value(out: &mut [u8], at: usize, v: i64) -> usize
     put_int(out, next, v)
 }
 
+// "`c65`, `i-3`": the letter tells the kind.
 fn put_letter(out: &mut [u8], at: usize, kind: u8) -> usize
     requires { ⌜ Room (now out) at (letter kind) ⌝ }
     ensures { λ r. ⌜ Put (now (out .entry)) at (letter kind) r (now (out .exit)) ⌝ }

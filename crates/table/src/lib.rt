@@ -79,3 +79,10 @@ pub fn instruction_of(exit: u32) -> u32
 {
     (exit - 1) / 524288
 }
+
+// A cell of a map or a table as an index: what is read from a slice is converted by a function.
+pub fn wide(x: u32) -> usize
+    ensures { λ r. ⌜ r ≡ x ⌝ }
+{
+    x as usize
+}

@@ -17,7 +17,7 @@ valid-requires c κs = search needs
 returns : tie.Need-returns
 returns c =
     let v = c .before .valid in
-    rw (sym (v .ensures) ∙ not-true (v .result) (c .if1 .taken)) refl
+    (rw (sym (v .ensures) ∙ not-true (v .result) (c .if1 .taken)) refl, tt)
 
 run-valid-requires : tie.Need-run-valid-requires
 run-valid-requires c κs =
@@ -43,10 +43,13 @@ returns-2 c =
     let the-if1 = c .before .before .before .before .before .before .before .before .if1 in
     let l = lent (now (the-args .stack)) (now (the-args .kinds)) (now (the-args .values)) in
     let l′ = lent (the-run-valid .last .1 .1 .1 .1 .1 .1 .0) (the-run-valid .last .1 .1 .1 .1 .1 .1 .1 .0) (the-run-valid .last .1 .1 .1 .1 .1 .1 .1 .1 .0) in
-    rw (sym (the-valid .ensures) ∙ not-false (the-valid .result) (the-if1 .left))
-    (settled (the-args .n) (runOf (jobOf (now (the-args .rows)) (now (the-args .exits)) (the-args .abstract-mode) (now (the-args .input)) l) (the-args .limit) start) l′ l (the-run-valid .result)
-    (record { stack = the-run-valid .kept .1 .1 .1 .1 .1 .1 .0; kinds = the-run-valid .kept .1 .1 .1 .1 .1 .1 .1 .0; values = the-run-valid .kept .1 .1 .1 .1 .1 .1 .1 .1 .0 })
-    (the-run-valid .ensures))
+    let right = sym (the-valid .ensures) ∙ not-false (the-valid .result) (the-if1 .left) in (
+      rw right
+          (settled (the-args .n) (runOf (jobOf (now (the-args .rows)) (now (the-args .exits)) (the-args .abstract-mode) (now (the-args .input)) l) (the-args .limit) start) l′ l (the-run-valid .result)
+          (record { stack = the-run-valid .kept .1 .1 .1 .1 .1 .1 .0; kinds = the-run-valid .kept .1 .1 .1 .1 .1 .1 .1 .0; values = the-run-valid .kept .1 .1 .1 .1 .1 .1 .1 .1 .0 })
+          (the-run-valid .ensures)),
+      (good-of (the-args .n) (now (the-args .rows)) (now (the-args .exits)) right, the-run-valid .ensures .placed),
+    )
 
 pub run-spec : {M : Type 1} → statement M
 run-spec =

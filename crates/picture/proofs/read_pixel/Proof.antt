@@ -1,4 +1,4 @@
--- The struct is made in a local and passed on, so that a caller needs no walk: a walk of the MIR, written by tools/walk.py (through).
+-- The struct is made in a local and passed on, so that a caller needs no walk: a walk of the MIR.
 -- Assumes nothing.
 use mathlib.Core.Path.{_≡_, refl}
 use Prim.Native.Nat.{ℕ, _<_, _^_}

@@ -13,8 +13,8 @@ returns c = short (c .if1 .taken) refl refl refl
 classify-requires : tie.Need-classify-requires
 classify-requires c κs = search needs
 
-of-classified-requires : tie.Need-of-classified-requires
-of-classified-requires c κs = search needs
+in-numbers-requires : tie.Need-in-numbers-requires
+in-numbers-requires c κs = search needs
 
 put-two-requires : tie.Need-put-two-requires
 put-two-requires c κs = search needs
@@ -27,11 +27,11 @@ same-length-2 c = search needs
 
 returns-2 : tie.Need-returns-2
 returns-2 c =
-    let the-of-classified = c .before .before .before .before .of-classified in
+    let the-in-numbers = c .before .before .before .before .in-numbers in
     let the-if1 = c .before .before .before .before .before .before .before .before .before .if1 in
     let the-classify = c .before .before .before .before .before .before .before .classify in
     let the-put-two = c .before .before .put-two in
-    told (the-of-classified .result .number) (the-of-classified .result .first ∷ the-of-classified .result .second ∷ []) (the-if1 .left) (the-classify .result, refl, the-classify .ensures) (the-of-classified .ensures) (the-put-two .ensures)
+    told (the-in-numbers .result .number) (the-in-numbers .result .row ∷ the-in-numbers .result .column ∷ []) (the-if1 .left) (the-classify .result, refl, the-classify .ensures) (the-in-numbers .ensures) (the-put-two .ensures)
 
 pub piet-classify-spec : {M : Type 1} → statement M
 piet-classify-spec =
@@ -39,7 +39,7 @@ piet-classify-spec =
     (tie.spec
     returns
     classify-requires
-    of-classified-requires
+    in-numbers-requires
     put-two-requires
     same-length
     same-length-2

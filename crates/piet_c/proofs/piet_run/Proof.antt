@@ -37,7 +37,7 @@ returns-2 c =
     let the-if1 = c .before .before .before .before .before .before .before .before .before .before .before .before .before .if1 in
     let the-run = c .before .before .before .before .before .before .before .before .before .run in
     let the-put-eight = c .before .before .put-eight in
-    told (the-of-ran .result .number) (the-of-ran .result .status ∷ the-of-ran .result .steps ∷ the-of-ran .result .region ∷ the-of-ran .result .dp ∷ the-of-ran .result .cc ∷ the-of-ran .result .depth ∷ the-of-ran .result .outputs ∷ the-of-ran .result .used ∷ []) (the-if1 .left) (the-run .result, refl, the-run .ensures) (the-of-ran .ensures) (the-put-eight .ensures)
+    told (the-of-ran .result .number) (the-of-ran .result .status ∷ the-of-ran .result .steps ∷ the-of-ran .result .region ∷ the-of-ran .result .dp ∷ the-of-ran .result .cc ∷ the-of-ran .result .depth ∷ the-of-ran .result .outputs ∷ the-of-ran .result .used ∷ []) (the-if1 .left) (the-run .result, refl, the-run .ensures .0) (the-of-ran .ensures) (the-put-eight .ensures)
 
 pub piet-run-spec : {M : Type 1} → statement M
 piet-run-spec =

@@ -1,15 +1,14 @@
 -- `report::put_int` meets its contract: a sign where the number is below 0, and its size.
 -- Assumes nothing.
-use mathlib.Core.Path.{_≡_, _∙_, sym, ap, refl}
+use mathlib.Core.Path.{_≡_}
 use mathlib.Core.Bool.{true, false}
-use mathlib.Core.List.{List, _++_}
-use Prim.Native.Nat.{ℕ, suc}
+use mathlib.Core.List.{_++_}
+use Prim.Native.Nat.{ℕ}
 use native.Mathlib.Omega.{arith}
 use borrow.Author.Tests.{ltb-true}
 use lib.IntN.{ℤ, pos, negsuc, natAbs}
 use lib.Signed.{ltZ}
 use mir.Syntax.{w64}
-use mir.Val.{SFits, toZ, ofZ}
 use mir.ValLaws.{toZ-ofZ}
 use Rattle.base.specs.Text.{ascii, decimal}
 use Rattle.report.specs.Text.{int}
@@ -29,20 +28,20 @@ unfolding int
 unsigned (pos k) n e h = rw h
 unsigned (negsuc k) n e h = absurd (let z : _≡_ {A = ℕ} 0 1 = cc in omega arith)
 
-below : (c : tie.Then1) → let s = c .before .before .before in int (s .args .v) ≡ ascii "-" ++ decimal (c .before .size .result)
+below : (c : tie.Then1) → let s = c .before .before .before in int (s .args .v) ≡ ascii "-" ++ decimal (c .before .abs .result)
 below c =
     let s = c .before .before .before in
     let e = toZ-ofZ w64 (s .args .v) (s .fits .v) in
-    signed (s .args .v) (c .before .size .result) (rw e at (c .if1 .taken)) (rw e at (c .before .size .ensures))
+    signed (s .args .v) (c .before .abs .result) (rw e at (c .if1 .taken)) (rw e at (c .before .abs .ensures))
 
-above : (c : tie.Else1) → let s = c .before .before .before in int (s .args .v) ≡ decimal (c .before .size .result)
+above : (c : tie.Else1) → let s = c .before .before .before in int (s .args .v) ≡ decimal (c .before .abs .result)
 above c =
     let s = c .before .before .before in
     let e = toZ-ofZ w64 (s .args .v) (s .fits .v) in
-    unsigned (s .args .v) (c .before .size .result) (rw e at (c .if1 .left)) (rw e at (c .before .size .ensures))
+    unsigned (s .args .v) (c .before .abs .result) (rw e at (c .if1 .left)) (rw e at (c .before .abs .ensures))
 
-size-requires : tie.Need-size-requires
-size-requires c κs = search needs
+abs-requires : tie.Need-abs-requires
+abs-requires c κs = search needs
 
 slice-aggregate-put-word : tie.Need-slice-aggregate-put-word
 slice-aggregate-put-word c = search needs
@@ -50,12 +49,12 @@ slice-aggregate-put-word c = search needs
 put-word-requires : tie.Need-put-word-requires
 put-word-requires c κs =
     let h = rw (below (c .before .before)) at (c .before .before .before .before .before .pre) in
-    room-front (ascii "-") (decimal (c .before .before .before .size .result)) h
+    room-front (ascii "-") (decimal (c .before .before .before .abs .result)) h
 
 put-number-requires : tie.Need-put-number-requires
 put-number-requires c κs =
     let h = rw (below (c .before .before .before .before .before .before)) at (c .before .before .before .before .before .before .before .before .before .pre) in
-    room-back (ascii "-") (decimal (c .before .before .before .before .before .before .before .size .result)) h (c .before .before .before .put-word .ensures)
+    room-back (ascii "-") (decimal (c .before .before .before .before .before .before .before .abs .result)) h (c .before .before .before .put-word .ensures)
 
 same-length : tie.Need-same-length
 same-length c = search needs
@@ -78,7 +77,7 @@ pub put-int-spec : {M : Type 1} → statement M
 put-int-spec =
     tie.close
     (tie.spec
-    size-requires
+    abs-requires
     slice-aggregate-put-word
     put-word-requires
     put-number-requires

@@ -1,17 +1,10 @@
 -- `report::put_item` meets its contract: a letter and a number one after the other.
 -- Assumes nothing.
-use mathlib.Core.List.{List, [], _∷_, _++_}
-use Prim.Native.Nat.{ℕ, _+_, _*_, _≤_}
 use native.Mathlib.Omega.{arith}
-use native.Mathlib.Nat.{le-refl}
-use lib.ListN.{length}
 use Rattle.report.proofs.Writing.{wrote, widen, room-of, wrote-room, wrote-then}
-use Rattle.report.proofs.TextLaws.{decimal-long, int-long, letter-long}
-use Rattle.base.specs.Text.{ascii, decimal}
-use Rattle.stack.specs.Stack.{stackOf}
-use Rattle.report.specs.Text.{newline, int, value, letter, item, values, items, line, placeLine, stackLine, outLine}
+use Rattle.report.proofs.TextLaws.{int-long, letter-long}
+use Rattle.report.specs.Text.{int, letter, item}
 use mir.Syntax.{w64}
-use mir.Val.{toZ, ofZ}
 use mir.ValLaws.{toZ-ofZ}
 use borrow.Author.Needs.{needs}
 use Rattle.report.proofs.put_item.Statement.{statement}

@@ -1,6 +1,5 @@
 -- `report::put_letter` meets its contract: one word or the other.
 -- Assumes nothing.
-use mathlib.Core.Path.{_≡_}
 use borrow.Author.Tests.{eq-eqb, ne-eqb}
 use borrow.Author.Needs.{needs}
 use Rattle.report.proofs.put_letter.Statement.{statement}

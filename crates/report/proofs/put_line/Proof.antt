@@ -1,15 +1,13 @@
 -- `report::put_line` meets its contract: a word, a number and a newline one after the other.
 -- Assumes nothing.
-use mathlib.Core.List.{List, [], _∷_, _++_}
-use Prim.Native.Nat.{ℕ, _+_, _*_, _≤_}
+use Prim.Native.Nat.{_+_}
 use native.Mathlib.Omega.{arith}
 use native.Mathlib.Nat.{le-refl}
 use lib.ListN.{length}
 use Rattle.report.proofs.Writing.{wrote, widen, room-of, wrote-room, wrote-then}
-use Rattle.report.proofs.TextLaws.{decimal-long, int-long, letter-long}
-use Rattle.base.specs.Text.{ascii, decimal}
-use Rattle.stack.specs.Stack.{stackOf}
-use Rattle.report.specs.Text.{newline, int, value, letter, item, values, items, line, placeLine, stackLine, outLine}
+use Rattle.report.proofs.TextLaws.{decimal-long}
+use Rattle.base.specs.Text.{decimal}
+use Rattle.report.specs.Text.{newline, line}
 use borrow.Author.Needs.{needs}
 use Rattle.report.proofs.put_line.Statement.{statement}
 use Rattle.report.proofs.put_line.Tie as tie

@@ -1,15 +1,12 @@
 -- `report::put_stack` meets its contract: the word, the count, the values and a newline one after the other.
 -- Assumes nothing.
-use mathlib.Core.List.{List, [], _∷_, _++_}
-use Prim.Native.Nat.{ℕ, _+_, _*_, _≤_}
+use Prim.Native.Nat.{_+_, _*_}
 use native.Mathlib.Omega.{arith}
-use native.Mathlib.Nat.{le-refl}
-use lib.ListN.{length}
 use Rattle.report.proofs.Writing.{wrote, widen, room-of, wrote-room, wrote-then}
-use Rattle.report.proofs.TextLaws.{decimal-long, int-long, letter-long}
-use Rattle.base.specs.Text.{ascii, decimal}
+use Rattle.report.proofs.TextLaws.{decimal-long}
+use Rattle.base.specs.Text.{decimal}
 use Rattle.stack.proofs.Cells.{stackOf-length}
-use Rattle.report.specs.Text.{newline, int, value, letter, item, values, items, line, placeLine, stackLine, outLine}
+use Rattle.report.specs.Text.{newline, stackLine}
 use borrow.Author.Needs.{needs}
 use Rattle.report.proofs.put_stack.Statement.{statement}
 use Rattle.report.proofs.put_stack.Tie as tie

@@ -1,4 +1,4 @@
--- Fields are read: a walk of the MIR, written by tools/walk.py (read).
+-- Fields are read: a walk of the MIR.
 -- Assumes nothing.
 use mathlib.Core.Path.{refl}
 use Prim.Native.Nat.{_<_, _^_}

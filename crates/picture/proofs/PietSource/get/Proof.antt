@@ -1,4 +1,4 @@
--- The struct is taken apart, and a covered function is called: a walk of the MIR, written by tools/walk.py (call).
+-- The struct is taken apart, and a covered function is called: a walk of the MIR.
 -- Assumes nothing.
 use mathlib.Core.Path.{_≡_, refl}
 use Prim.Native.Nat.{ℕ, _<_, _^_}

@@ -1,4 +1,4 @@
--- `PietSource` is made of what is passed: a walk of its MIR, written by tools/walk.py (make).
+-- `PietSource` is made of what is passed: a walk of its MIR.
 -- Assumes nothing.
 use mathlib.Core.Path.{refl}
 use Prim.Native.Nat.{ℕ, _<_, _^_}

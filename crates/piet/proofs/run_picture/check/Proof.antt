@@ -17,24 +17,24 @@ asks c limit mode input = asked (c .args .pixels .now) (c .args .height) (c .arg
 check-requires : tie.Need-check-requires
 check-requires c κs = search needs
 
-of-classified-requires : tie.Need-of-classified-requires
-of-classified-requires c κs = search needs
+in-numbers-requires : tie.Need-in-numbers-requires
+in-numbers-requires c κs = search needs
 
 returns : tie.Need-returns
 returns c =
     let start = c .before .before .before .before .before in
     let the-args = c .before .before .before .before .before .args in
-    let the-of-classified = c .before .before .of-classified in
+    let the-in-numbers = c .before .before .in-numbers in
     let the-check = c .before .before .before .check in
-    λ limit mode input. on-classifying (asks start limit mode input) (the-args .colours) (the-args .map) (the-args .rows) (the-args .exits) (the-args .work) (the-of-classified .result .number) (the-of-classified .result .row ∷ the-of-classified .result .column ∷ []) (c .if1 .taken) (the-of-classified .ensures ∙ the-check .ensures)
+    λ limit mode input. on-classifying (asks start limit mode input) (the-args .colours) (the-args .map) (the-args .rows) (the-args .exits) (the-args .work) (the-in-numbers .result .number) (the-in-numbers .result .row ∷ the-in-numbers .result .column ∷ []) (c .if1 .taken) (the-in-numbers .ensures ∙ the-check .ensures)
 
 check-table-requires : tie.Need-check-table-requires
 check-table-requires c κs =
     let start = c .before .before .before .before .before in
     let the-args = c .before .before .before .before .before .args in
-    let the-of-classified = c .before .before .of-classified in
+    let the-in-numbers = c .before .before .in-numbers in
     let the-check = c .before .before .before .check in
-    let k = passes-on (asks start 0 false []) (the-args .colours) (the-args .map) (the-args .rows) (the-args .exits) (the-args .work) (the-of-classified .result .row ∷ the-of-classified .result .column ∷ []) (rw (c .if1 .left) at (the-of-classified .ensures ∙ the-check .ensures)) in
+    let k = passes-on (asks start 0 false []) (the-args .colours) (the-args .map) (the-args .rows) (the-args .exits) (the-args .work) (the-in-numbers .result .row ∷ the-in-numbers .result .column ∷ []) (rw (c .if1 .left) at (the-in-numbers .ensures ∙ the-check .ensures)) in
     ((k .high, k .wide), k .bytes)
 
 placeless-requires : tie.Need-placeless-requires
@@ -44,17 +44,17 @@ returns-2 : tie.Need-returns-2
 returns-2 c =
     let start = c .before .before .before .before .before .before .before in
     let the-args = c .before .before .before .before .before .before .before .args in
-    let the-of-classified = c .before .before .before .before .of-classified in
+    let the-in-numbers = c .before .before .before .before .in-numbers in
     let the-if1 = c .before .before .if1 in
     let the-check = c .before .before .before .before .before .check in
-    λ limit mode input. c .placeless .ensures ∙ c .before .check-table .ensures ∙ on-building (asks start limit mode input) (the-args .colours) (the-args .map) (the-args .rows) (the-args .exits) (the-args .work) (the-of-classified .result .row ∷ the-of-classified .result .column ∷ []) (rw (the-if1 .left) at (the-of-classified .ensures ∙ the-check .ensures))
+    λ limit mode input. c .placeless .ensures ∙ c .before .check-table .ensures ∙ on-building (asks start limit mode input) (the-args .colours) (the-args .map) (the-args .rows) (the-args .exits) (the-args .work) (the-in-numbers .result .row ∷ the-in-numbers .result .column ∷ []) (rw (the-if1 .left) at (the-in-numbers .ensures ∙ the-check .ensures))
 
 pub check-spec : {M : Type 1} → statement M
 check-spec =
     tie.close
     (tie.spec
     check-requires
-    of-classified-requires
+    in-numbers-requires
     returns
     check-table-requires
     placeless-requires

@@ -25,7 +25,7 @@ same-length-3 c = search needs
 returns : tie.Need-returns
 returns c =
     let the-run = c .before .before .before .before .before .before .before .run in
-    rw (c .before .e .given .1) at (the-run .ensures)
+    rw (c .before .e .given .1) at (the-run .ensures .0)
 
 same-length-4 : tie.Need-same-length-4
 same-length-4 c = search needs
@@ -39,7 +39,7 @@ same-length-6 c = search needs
 returns-2 : tie.Need-returns-2
 returns-2 c =
     let the-run = c .before .before .before .before .before .before .run in
-    rw (c .enum-told .given .1) at (the-run .ensures)
+    rw (c .enum-told .given .1) at (the-run .ensures .0)
 
 pub run-table-spec : {M : Type 1} → statement M
 run-table-spec =

@@ -1,8 +1,8 @@
--- `piet::run_picture::of_classified` meets its contract: an arm for each answer.
+-- `colour::classify::in_numbers` meets its contract: an arm for each answer.
 -- Assumes nothing.
 use borrow.Author.Needs.{needs}
-use Rattle.piet.proofs.run_picture.of_classified.Statement.{statement}
-use Rattle.piet.proofs.run_picture.of_classified.Tie as tie
+use Rattle.colour.proofs.classify.in_numbers.Statement.{statement}
+use Rattle.colour.proofs.classify.in_numbers.Tie as tie
 
 enum-told : tie.Need-enum-told
 enum-told c = search needs
@@ -55,8 +55,8 @@ returns-5 c = rw (c .before .enum-told5 .given .1) (c .placeless5 .ensures)
 returns-6 : tie.Need-returns-6
 returns-6 c = rw (c .before .r .given .1)
 
-pub of-classified-spec : {M : Type 1} → statement M
-of-classified-spec =
+pub in-numbers-spec : {M : Type 1} → statement M
+in-numbers-spec =
     tie.close
     (tie.spec
     enum-told
