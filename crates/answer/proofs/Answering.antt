@@ -13,7 +13,7 @@ use Rattle.interpreter.specs.Run.{End}
 use Rattle.interpreter.specs.Outcome.{endedOf}
 use Rattle.piet.specs.declared.run_picture.Pictured.{Pictured}
 use Rattle.piet.specs.declared.run_picture.Pictured.the-variants.{Finished, Refused}
-use Rattle.piet.specs.RunPicture.{Asked, Lends, Runs}
+use Rattle.piet.specs.RunPicture.{Asked, Lends, RanPicture}
 use Rattle.piet.specs.RunPicture as running
 use Rattle.job.specs.Encoding.{Content, IsJob}
 use Rattle.report.specs.Text.{refusalText}
@@ -41,7 +41,7 @@ record Finish (a : Asked) (l l′ : Lends) (x : Ended) : Type 0 where
   pub end : End
   pub is : x ≡ endedOf end
   pub none : running.refusalOf a l ≡ numbers 0 (0 ∷ 0 ∷ [])
-  pub runs : Runs a l l′ end
+  pub runs : RanPicture a l l′ end
 
 finish : {a : Asked} {l l′ : Lends} {x : Ended} (r : Pictured) → r ≡ Finished x → running.Outcome a l r l′ → Finish a l l′ x
 finish r z (running.refused k v h q) = absurd (refusing.refused k v _ (sym q ∙ ap running.numbered z))

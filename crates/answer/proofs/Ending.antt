@@ -18,15 +18,15 @@ use Rattle.table.specs.Layout.{rowCell, rowsRoom, colourField, rowField, column
 use Rattle.cfg.specs.Build.{legalFirst, Enough}
 use Rattle.cfg.specs.Table.{Row}
 use Rattle.cfg.proofs.Refusing as building
-use Rattle.machine.specs.Held.{Lent}
+use Rattle.machine.specs.Held.{Slices}
 use Rattle.interpreter.specs.Run.{End}
-use Rattle.interpreter.specs.Outcome.{lentOf, endedOf}
-use Rattle.piet.specs.RunPicture.{Lends, lends, Runs, given}
+use Rattle.interpreter.specs.Outcome.{slicesOf, endedOf}
+use Rattle.piet.specs.RunPicture.{Lends, lends, RanPicture, given}
 use Rattle.piet.specs.RunPicture as running
 use Rattle.piet.proofs.Refusing as picture
-use Rattle.piet.proofs.Seeing.{legal-shades}
+use Rattle.piet.proofs.Seeing.{legal-under}
 use Rattle.job.specs.Encoding.{Content}
-use Rattle.answer.specs.Answer.{askedOf, pictureOf, refusalOf, givenOf, Ran, endText}
+use Rattle.answer.specs.Answer.{askedOf, refusalOf, givenOf, Ran, endText}
 use Rattle.answer.specs.Printing.{HasLabel, labelIn, linesOf, Printable}
 use Rattle.answer.proofs.Slices.{stack-back, stack-few, outs-back, outs-few}
 
@@ -65,15 +65,15 @@ legal-at (x ∷ cs) h (suc i) =
     by-size 19 x (λ l. absurd (not-suc-le-zero (rw (lt-ltb 19 x l) at h))) (λ l. legal-at cs (le-of-suc-le-suc (rw (le-ltb 19 x l) at h)) i)
 
 -- a picture that is not refused is sound, and there is room for its table
-pub enough : (c : Content) → refusalOf c ≡ numbers 0 (0 ∷ 0 ∷ []) → Enough (pictureOf c) 512 2560 4096 512
+pub enough : (c : Content) → refusalOf c ≡ numbers 0 (0 ∷ 0 ∷ []) → Enough (askedPicture (askedOf c)) 512 2560 4096 512
 enough c h =
-    building.accepted (pictureOf c) 512 2560 4096 512 (0 ∷ 0 ∷ [])
+    building.accepted (askedPicture (askedOf c)) 512 2560 4096 512 (0 ∷ 0 ∷ [])
     (sym (picture.accepted (askedOf c) fresh 0 (0 ∷ 0 ∷ []) refl (sym (same-refusal c fresh-sized ∙ h)) .builds))
 
 module _ (c : Content) {l l′ : Lends} {e : End} (s : Sized l) (s′ : Sized l′) (h : refusalOf c ≡ numbers 0 (0 ∷ 0 ∷ []))
-    (R : Runs (askedOf c) l l′ e) where
+    (R : RanPicture (askedOf c) l l′ e) where
   abbrev p : Picture
-  p = pictureOf c
+  p = askedPicture (askedOf c)
 
   abbrev m : List ℕ
   m = take (codels p) (l′ .map)
@@ -115,20 +115,20 @@ module _ (c : Content) {l l′ : Lends} {e : End} (s : Sized l) (s′ : Sized l�
         few = omega (arith, region-in);
         there = omega (arith, region-in, s′ .rows);
         legal = record {
-          colour-in = rw colour-is (legal-at (p .colours) (legal-shades (c .pixels) 0) _);
+          colour-in = rw colour-is (legal-at (p .colours) (legal-under (c .pixels) 0) _);
           row-in = rw row-is (omega arith);
           column-in = rw column-is (omega arith);
         };
       }
 
-  stack-is : l′ .run .stack ≡ lentOf (l .run) (e .at .store) .stack
-  stack-is = ap (λ (x : Lent). x .stack) (R .run)
+  stack-is : l′ .run .stack ≡ slicesOf (l .run) (e .at .store) .stack
+  stack-is = ap (λ (x : Slices). x .stack) (R .run)
 
-  kinds-are : l′ .run .kinds ≡ lentOf (l .run) (e .at .store) .kinds
-  kinds-are = ap (λ (x : Lent). x .kinds) (R .run)
+  kinds-are : l′ .run .kinds ≡ slicesOf (l .run) (e .at .store) .kinds
+  kinds-are = ap (λ (x : Slices). x .kinds) (R .run)
 
-  values-are : l′ .run .values ≡ lentOf (l .run) (e .at .store) .values
-  values-are = ap (λ (x : Lent). x .values) (R .run)
+  values-are : l′ .run .values ≡ slicesOf (l .run) (e .at .store) .values
+  values-are = ap (λ (x : Slices). x .values) (R .run)
 
   shallow : length (e .at .store .stack) ≤ length (l .run .stack)
   shallow = stack-few (length (l .run .stack)) (e .at .store .stack) (sym (ap length stack-is) ∙ s′ .stack ∙ sym (s .stack))

@@ -19,7 +19,7 @@ use Rattle.piet.proofs.FollowsOnly.{picture-only}
 use Rattle.job.specs.Encoding.{Content}
 use Rattle.job.proofs.Only.{content-only}
 use Rattle.report.specs.Text.{refusalText}
-use Rattle.answer.specs.Answer.{pictureOf, refusalOf, givenOf, Labels, Ran, endText, Answers, no-job, refused, ran, Outcome, short, printed}
+use Rattle.answer.specs.Answer.{askedOf, refusalOf, givenOf, Labels, Ran, endText, Answers, no-job, refused, ran, Outcome, short, printed}
 use Rattle.answer.proofs.Ending.{enough}
 
 labels-only : {p : Picture} {map : List ℕ} {r : ℕ} {x y : List ℕ} → Labels p map r x → Labels p map r y → x ≡ y
@@ -34,7 +34,7 @@ module _ (c : Content) {map map′ : List ℕ} {e e′ : End} {x x′ : List ℕ
   same-map : map ≡ map′
   same-map =
       ext-getD 0 map map′ (A .long ∙ sym (B .long))
-      (λ i k. unique (gridOf (pictureOf c)) map map′ (A .regions) (B .regions) (A .numbered) (B .numbered) .0 i (omega (arith, A .long)))
+      (λ i k. unique (gridOf (askedPicture (askedOf c))) map map′ (A .regions) (B .regions) (A .numbered) (B .numbered) .0 i (omega (arith, A .long)))
 
   same-end : e ≡ e′
   same-end = picture-only (enough c h .sound) (A .long) (B .long) (A .numbered) (B .numbered) (givenOf c) (A .follows) (B .follows)
@@ -42,8 +42,8 @@ module _ (c : Content) {map map′ : List ℕ} {e e′ : End} {x x′ : List ℕ
   same-label : x ≡ x′
   same-label =
       labels-only (A .labelled)
-      (subst (λ (m : List ℕ). Labels (pictureOf c) m (e .at .region) x′) (sym same-map)
-      (subst (λ (y : End). Labels (pictureOf c) map′ (y .at .region) x′) (sym same-end) (B .labelled)))
+      (subst (λ (m : List ℕ). Labels (askedPicture (askedOf c)) m (e .at .region) x′) (sym same-map)
+      (subst (λ (y : End). Labels (askedPicture (askedOf c)) map′ (y .at .region) x′) (sym same-end) (B .labelled)))
 
   ran-only : endText e x ≡ endText e′ x′
   ran-only = rw (same-end, same-label)

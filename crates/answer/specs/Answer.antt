@@ -13,7 +13,7 @@ use Rattle.region.specs.Rows.{First}
 use Rattle.machine.specs.Machine.{statusOf}
 use Rattle.interpreter.specs.Run.{End}
 use Rattle.piet.specs.Follows.{Given, Follows}
-use Rattle.piet.specs.RunPicture.{Asked, asked, seen, refusal}
+use Rattle.piet.specs.RunPicture.{Asked, asked, askedPicture, refusal}
 use Rattle.job.specs.declared.Job.the-variants.{Refused}
 use Rattle.job.specs.Encoding.{Content, IsJob}
 use Rattle.job.specs.Outcome as reading
@@ -22,10 +22,6 @@ use Rattle.report.specs.Text.{resultText, refusalText}
 -- what a job asks of a run: "Setting 0"
 abbrev pub askedOf : Content → Asked
 askedOf c = asked (c .pixels) (c .height) (c .width) 0 (c .codel) (c .limit) (c .abstracted) (c .input)
-
--- the picture of a job
-abbrev pub pictureOf : Content → Picture
-pictureOf c = seen (askedOf c)
 
 -- "the refusals of classifying, then of building"; "room for 512 pixels", and so for the table of 512 codels
 abbrev pub refusalOf : Content → Numbers
@@ -44,10 +40,10 @@ pub record Labels (p : Picture) (map : List ℕ) (r : ℕ) (label : List ℕ) : 
 -- a run of the job's picture ends in e, at a region of that label; the regions are numbered in the map by their first codels
 pub record Ran (c : Content) (map : List ℕ) (e : End) (label : List ℕ) : Type 0 where
   pub regions : ℕ
-  pub long : length map ≡ codels (pictureOf c)
-  pub numbered : IsMap (gridOf (pictureOf c)) map regions
-  pub follows : Follows (pictureOf c) map (givenOf c) (c .limit) e
-  pub labelled : Labels (pictureOf c) map (e .at .region) label
+  pub long : length map ≡ codels (askedPicture (askedOf c))
+  pub numbered : IsMap (gridOf (askedPicture (askedOf c))) map regions
+  pub follows : Follows (askedPicture (askedOf c)) map (givenOf c) (c .limit) e
+  pub labelled : Labels (askedPicture (askedOf c)) map (e .at .region) label
 
 -- status, steps, label, dp, cc, stack and outputs of an end
 abbrev pub endText : End → List ℕ → List ℕ

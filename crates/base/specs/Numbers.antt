@@ -8,6 +8,12 @@ use Prim.Native.Nat.{ℕ, zero, suc}
 pub data Numbers : Type 0 where
   numbers : ℕ → List ℕ → Numbers
 
+abbrev pub numberOf : Numbers → ℕ
+numberOf (numbers n values) = n
+
+abbrev pub valuesOf : Numbers → List ℕ
+valuesOf (numbers n values) = values
+
 -- a row of a call's table of refusals: given exactly when this holds; what is answered then
 pub data Row : Type 0 where
   row : Bool → Numbers → Row

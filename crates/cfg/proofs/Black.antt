@@ -8,10 +8,10 @@ use mathlib.Core.List.{List}
 use Prim.Native.Nat.{ℕ, _<_}
 use native.Mathlib.Omega.{arith}
 use lib.ListN.{length, getD}
-use Rattle.flow.specs.Pointer.{Valid, numberOf}
+use Rattle.flow.specs.Pointer.{Valid, stateNumber}
 use Rattle.flow.proofs.Order.{valid-number, number-small}
 use Rattle.flow.specs.declared.PointerState.{PointerState}
-use Rattle.flow.specs.declared.Next.{Next}
+use Rattle.flow.specs.declared.Ahead.{Ahead}
 use Rattle.colour.specs.Decode.{decodeOf}
 use Rattle.colour.specs.Palette.{black}
 use Rattle.cfg.specs.Nodes.{regionAt, Tried, wayNumber, Adds, beside, astray, over, landing, Found, entry, next, Node}
@@ -29,10 +29,10 @@ use Rattle.region.specs.Region.{IsMap}
 use Rattle.region.proofs.MapLaws.{map-few}
 use Rattle.table.specs.ExitNumber.{instructionOf}
 use Rattle.table.proofs.Exits.{instruction-back}
-use Rattle.cfg.proofs.NodeLaws.{joined-shade}
+use Rattle.cfg.proofs.NodeLaws.{joined-colour}
 
 -- a codel that is seen white is not black
-seen-white : {p : Picture} {x : Next} {a b : ℕ} → Sighted p x (White a b) → colourAt p a b ≡ black → ⊥
+seen-white : {p : Picture} {x : Ahead} {a b : ℕ} → Sighted p x (White a b) → colourAt p a b ≡ black → ⊥
 seen-white (at-white h) e = omega arith
 
 -- q is the region of a codel that is not black
@@ -70,7 +70,7 @@ module _ {p : Picture} {map : List ℕ} {n : ℕ} (S : Sound p) (M : IsMap (grid
   black-found entry j h own dark = refl
   black-found (next {s = s} f k t a) j h own dark =
       let x = bright (inside-of S (t .codel) (omega (arith, t .leaves .codel, long))) (valid-number s k) (t .way) a in
-      absurd (x .not-black (joined-shade (M .apart (x .codel) j (x .inside) h (x .own ∙ sym own)) ∙ dark))
+      absurd (x .not-black (joined-colour (M .apart (x .codel) j (x .inside) h (x .own ∙ sym own)) ∙ dark))
 
   pub black-node : {r : ℕ} → Node p map r → (j : ℕ) → j < codels p → getD map j 0 ≡ r → codelColour p j ≡ black → r ≡ 0
   black-node N = black-found (N .found)
@@ -86,11 +86,11 @@ module _ {p : Picture} {map : List ℕ} {n : ℕ} (S : Sound p) (M : IsMap (grid
       rw dark (instruction-back (regionAt p map a b) s 0 (region-small a b (coloured-inside p r c (q .dp) i e)) h)
   silent {r} {c} {q = q} dark h i v (glide {a = a} {b = b} {t = t} e d) =
       let l = lands-at d (white-inside p r c (q .dp) i e) v in
-      instruction-back (regionAt p map a b) (numberOf t) 0 (region-small a b (l .place)) (number-small t (l .valid))
+      instruction-back (regionAt p map a b) (stateNumber t) 0 (region-small a b (l .place)) (number-small t (l .valid))
   silent dark h i v (lost e d) = refl
 
   pub black-exit : {r s x : ℕ} → s < 8 → Exit p map r s x → (j : ℕ) → j < codels p → getD map j 0 ≡ r → codelColour p j ≡ black → instructionOf x ≡ 0
   black-exit {s = s} k (node N t) j h own dark =
       let inside : t .codel < codels p = omega (arith, t .leaves .codel, long) in
-      silent (joined-shade (M .apart (t .codel) j inside h (t .leaves .own ∙ sym own)) ∙ dark) k (inside-of S (t .codel) inside) (valid-number s k) (t .way)
+      silent (joined-colour (M .apart (t .codel) j inside h (t .leaves .own ∙ sym own)) ∙ dark) k (inside-of S (t .codel) inside) (valid-number s k) (t .way)
   black-exit k (no-node N) j h own dark = refl

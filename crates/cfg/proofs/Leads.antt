@@ -9,7 +9,7 @@ use Prim.Native.Nat.{ℕ, _<_, _≤_}
 use native.Mathlib.Omega.{arith}
 use lib.Dec.{lit≤}
 use lib.ListN.{length, getD}
-use Rattle.flow.specs.Pointer.{Valid, numberOf}
+use Rattle.flow.specs.Pointer.{Valid, stateNumber}
 use Rattle.flow.proofs.Order.{valid-number, number-small}
 use Rattle.flow.specs.declared.PointerState.{PointerState}
 use Rattle.cfg.specs.Nodes.{regionAt, wayNumber, Adds, beside, landing, Found, next, Node}
@@ -24,7 +24,7 @@ use Rattle.exit.proofs.SlideEnds.{landing as lands-at}
 use Rattle.exit.specs.Attempt.{Attempt, shut, step, glide, lost}
 use Rattle.region.specs.Region.{IsMap}
 use Rattle.region.proofs.MapLaws.{map-few}
-use Rattle.cfg.proofs.NodeLaws.{joined-shade}
+use Rattle.cfg.proofs.NodeLaws.{joined-colour}
 use Rattle.colour.proofs.DecodeLaws.{decode-small}
 use Rattle.region.specs.Grid.{gridOf}
 use Rattle.picture.proofs.Codels.{index-in, row-of, col-of, inside-of}
@@ -42,14 +42,14 @@ pub record Leads (p : Picture) (map : List ℕ) (n x : ℕ) : Type 0 where
   pub node : Node p map target
 
 module _ {p : Picture} {map : List ℕ} {n : ℕ} (S : Sound p) (M : IsMap (gridOf p) map n) where
-  shade-at : (a b : ℕ) → Inside p a b → codelColour p (indexOf p a b) ≡ colourAt p a b
-  shade-at a b i = rw (row-of p a b i, col-of p a b i)
+  colour-at : (a b : ℕ) → Inside p a b → codelColour p (indexOf p a b) ≡ colourAt p a b
+  colour-at a b i = rw (row-of p a b i, col-of p a b i)
 
   -- a found region with a coloured codel is a node
   coloured-node : (a b : ℕ) → Inside p a b → (colourAt p a b ≡ white → ⊥) → Found p map (regionAt p map a b) → Node p map (regionAt p map a b)
   coloured-node a b i d f = record {
     found = f;
-    coloured = λ w. d (sym (shade-at a b i) ∙ sym (joined-shade (M .apart (w .codel) (indexOf p a b) (w .inside) (index-in p a b i) (w .own))) ∙ w .shade);
+    coloured = λ w. d (sym (colour-at a b i) ∙ sym (joined-colour (M .apart (w .codel) (indexOf p a b) (w .inside) (index-in p a b i) (w .own))) ∙ w .colour);
   }
 
   attempt-leads : {r c : ℕ} {q : PointerState} {w : Way} (from s : ℕ) → s < 8 → Inside p r c → Valid q → ((x : ℕ) → Adds p map w x → Found p map x) → Attempt p r c q w
@@ -72,7 +72,7 @@ module _ {p : Picture} {map : List ℕ} {n : ℕ} (S : Sound p) (M : IsMap (grid
       let l = lands-at d (white-inside p r c (q .dp) i e) v in
       inr (record {
         target = regionAt p map a b;
-        state = numberOf t;
+        state = stateNumber t;
         instruction = 0;
         number = refl;
         low = M .below (indexOf p a b) (index-in p a b (l .place));

@@ -22,6 +22,6 @@ same-way {p} {map} {r} {s} {w} {w′} h l k a b =
     attempt-only (a .way) (subst (λ (i : ℕ). Attempt p (i / colsOf p) (i % colsOf p) (ofNumber s) w′) (sym (same-codel h l k a b)) (b .way))
 
 -- joined codels have one colour
-pub joined-shade : {g : Grid} {i j : ℕ} → Joined g i j → g .colour i ≡ g .colour j
-joined-shade here = refl
-joined-shade (on q n e) = joined-shade q ∙ e
+pub joined-colour : {g : Grid} {i j : ℕ} → Joined g i j → g .colour i ≡ g .colour j
+joined-colour here = refl
+joined-colour (on q n e) = joined-colour q ∙ e

@@ -13,7 +13,7 @@ use native.Mathlib.Omega.{arith}
 use lib.ListN.{length, getD, set, length-set}
 use lib.Seq.{getD-set-same, getD-set-other}
 use Rattle.cfg.specs.Nodes.{Adds, beside, astray, over, landing, Found}
-use Rattle.cfg.specs.Search.{mark, Room, Visit, pushed, kept, Queued, Placed, Grounds, Occurs, Waiting, Queue, Onward}
+use Rattle.cfg.specs.Search.{mark, Room, Visit, pushed, kept, Queued, InGrid, Grounds, Occurs, Waiting, Queue, Onward}
 use Rattle.cfg.specs.Search as search
 use Rattle.table.specs.Layout.{rowCell, markField}
 use Rattle.region.proofs.Cells.{stored}
@@ -164,7 +164,7 @@ module _ {p : Picture} {map : List ℕ} (G : Grounds p map) (a b : ℕ) (i : Ins
   region-occurs = record { codel = a * colsOf p + b; inside = at-in; own = refl }
 
 module _ {p : Picture} {map : List ℕ} (G : Grounds p map) {rows work : List ℕ} {tail : ℕ} (Q : Queue p map rows work tail) (long : length work ≡ codels p) where
-  pub queued : {w : Way} {rows′ work′ : List ℕ} {tail′ : ℕ} → Placed p w → ((q : ℕ) → Adds p map w q → Found p map q) → Queued map (colsOf p) rows work tail w rows′ work′ tail′
+  pub queued : {w : Way} {rows′ work′ : List ℕ} {tail′ : ℕ} → InGrid p w → ((q : ℕ) → Adds p map w q → Found p map q) → Queued map (colsOf p) rows work tail w rows′ work′ tail′
       → Onward p map rows work tail rows′ work′ tail′ × ((q : ℕ) → Adds p map w q → mark rows′ q ≡ 1)
   queued i f search.closed = (onward-none Q, λ q d. absurd (not-closed d refl))
   queued i f (search.step {a = a} {b = b} {rows′ = rows₁} v) =

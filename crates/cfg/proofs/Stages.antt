@@ -20,7 +20,7 @@ use Rattle.flow.specs.Pointer.{ofNumber}
 use Rattle.flow.proofs.Order.{valid-number}
 use Rattle.cfg.specs.Nodes.{Adds, beside, astray, over, landing, Found, entry, next, Node}
 use Rattle.cfg.specs.Table.{Marks, is, none, Row, Exit, node, no-node, Builds}
-use Rattle.cfg.specs.Search.{mark, Placed, Grounds, Occurs, Begun, Ready, Searched, isNode, Kept, stays, goes, Cleared}
+use Rattle.cfg.specs.Search.{mark, InGrid, Grounds, Occurs, Begun, Ready, Searched, isNode, Kept, stays, goes, Cleared}
 use Rattle.table.specs.Layout.{rowCell, markField, colourField, exitCell, rowsRoom, exitsRoom}
 use Rattle.picture.specs.Picture.{Picture, rowsOf, colsOf, codels, codelColour}
 use Rattle.exit.specs.declared.attempt.Way.{Way}
@@ -29,7 +29,7 @@ use Rattle.exit.specs.Keeping.{Mapped, AllKept, cellOf}
 use Rattle.region.proofs.MapLaws.{map-low}
 use Rattle.region.specs.Rows.{Blank}
 use Rattle.picture.proofs.Codels.{cols-pos, first-in, inside-of}
-use Rattle.cfg.proofs.NodeLaws.{joined-shade}
+use Rattle.cfg.proofs.NodeLaws.{joined-colour}
 use Rattle.region.specs.Grid.{gridOf}
 use Rattle.cfg.proofs.Queueing.{region-occurs}
 use Rattle.cfg.proofs.Trying.{placed}
@@ -108,7 +108,7 @@ module _ {p : Picture} {map : List ℕ} {n : ℕ} {rows : List ℕ} (B : Begun p
   found-occurs (next {q = q} {w = w} f h t a) =
       added w q (placed (inside-of (B .sound) (t .codel) (omega (arith, t .leaves .codel, B .map-long))) (valid-number _ h) (t .way)) a
     where
-      added : (w : Way) (q : ℕ) → Placed p w → Adds p map w q → Occurs map q
+      added : (w : Way) (q : ℕ) → InGrid p w → Adds p map w q → Occurs map q
       added w q i (beside {a = a} {b = b}) = region-occurs grounds a b i
       added w q i (astray {a = a} {b = b}) = region-occurs grounds a b i
       added w q i (over {a = a} {b = b}) = region-occurs grounds a b (i .0)
@@ -125,12 +125,12 @@ module _ {p : Picture} {map : List ℕ} {n : ℕ} {rows : List ℕ} (B : Begun p
     cell : (r c : ℕ) → c < 4 → getD rows″ (rowCell r c) 0 ≡ getD rows (rowCell r c) 0
     cell r c h = C .rows-same (rowCell r c) (λ q i. omega arith) ∙ S .cells r c h
 
-    -- the colour cell is the shade of each codel of the region
+    -- the colour cell is the colour of each codel of the region
     colour-cell : (r : ℕ) → r < n → (i : ℕ) → i < codels p → getD map i 0 ≡ r → getD rows′ (rowCell r colourField) 0 ≡ codelColour p i
     colour-cell r h i l e =
         let t = B .table .rows r h in
         let c : getD rows′ (rowCell r colourField) 0 ≡ getD rows (rowCell r colourField) 0 = S .cells r 0 (omega arith) in
-        c ∙ t .colour ∙ joined-shade (B .regions .apart (t .first) i (t .is .inside) l (t .is .has ∙ sym e))
+        c ∙ t .colour ∙ joined-colour (B .regions .apart (t .first) i (t .is .inside) l (t .is .has ∙ sym e))
 
     -- a region that is kept is a node, and one that is not kept is none
     marked-is : {r x : ℕ} → Marks (Found p map r) x → x ≢ 0 → Found p map r × (x ≡ 1)
@@ -156,7 +156,7 @@ module _ {p : Picture} {map : List ℕ} {n : ℕ} {rows : List ℕ} (B : Begun p
     is-node r h e =
         let t = tests r e in
         let f = marked-is (S .marks r) (t .1) in
-        (record { found = f .0; coloured = λ w. t .0 (colour-cell r h (w .codel) (w .inside) (w .own) ∙ w .shade) }, f .1)
+        (record { found = f .0; coloured = λ w. t .0 (colour-cell r h (w .codel) (w .inside) (w .own) ∙ w .colour) }, f .1)
 
     never-node : (r : ℕ) → r < n → isNode rows′ r ≡ false → Node p map r → ⊥
     never-node r h e N = first (eqb (getD rows′ (rowCell r colourField) 0) 19) refl e
@@ -172,7 +172,7 @@ module _ {p : Picture} {map : List ℕ} {n : ℕ} {rows : List ℕ} (B : Begun p
               codel = t .first;
               inside = t .is .inside;
               own = t .is .has;
-              shade = sym (colour-cell r h (t .first) (t .is .inside) (t .is .has)) ∙ eqb-true _ _ m;
+              colour = sym (colour-cell r h (t .first) (t .is .inside) (t .is .has)) ∙ eqb-true _ _ m;
             })
         first false m k = second (eqb (mark rows′ r) 0) refl k
 

@@ -11,10 +11,10 @@ use native.Mathlib.Decide.{decLt}
 use native.Mathlib.Omega.{arith}
 use lib.ListN.{length, getD, set, length-set}
 use lib.Seq.{getD-set-same, getD-set-other}
-use Rattle.flow.specs.Pointer.{Valid, numberOf, ofNumber}
+use Rattle.flow.specs.Pointer.{Valid, stateNumber, ofNumber}
 use Rattle.flow.specs.declared.PointerState.{PointerState}
 use Rattle.cfg.specs.Nodes.{Tried, wayNumber, Found, next}
-use Rattle.cfg.specs.Search.{mark, Queued, Placed, Grounds, Queue, Settled, Tries, Several, Taken}
+use Rattle.cfg.specs.Search.{mark, Queued, InGrid, Grounds, Queue, Settled, Tries, Several, Taken}
 use Rattle.table.specs.Layout.{exitCell, exitsRoom}
 use Rattle.exit.specs.declared.attempt.Way.{Way}
 use Rattle.exit.specs.declared.attempt.Way.the-variants.{Step, Glide}
@@ -23,12 +23,12 @@ use Rattle.picture.specs.Picture.{Picture, Inside, rowsOf, colsOf, colourAt, co
 use Rattle.exit.specs.Attempt.{Attempt, shut, step, glide, lost}
 use Rattle.exit.proofs.SlideLaws.{white-inside, coloured-inside}
 use Rattle.exit.proofs.SlideEnds.{landing}
-use Rattle.exit.specs.Leaving.{Leaves}
+use Rattle.exit.specs.Leaving.{LeavesBy}
 use Rattle.picture.proofs.Codels.{inside-of}
 use Rattle.table.specs.ExitNumber.{exitNumber}
 use Rattle.cfg.proofs.Queueing.{at-in, region-low, queued, onward-none, onward-more}
 
-pub placed : {p : Picture} {r c : ℕ} {s : PointerState} {w : Way} → Inside p r c → Valid s → Attempt p r c s w → Placed p w
+pub placed : {p : Picture} {r c : ℕ} {s : PointerState} {w : Way} → Inside p r c → Valid s → Attempt p r c s w → InGrid p w
 placed i v (shut e) = omega arith
 placed {p} {r} {c} {s} i v (step {r′ = a} {c′ = b} e) = coloured-inside p r c (s .dp) i e
 placed {p} {r} {c} {s} i v (glide {r′ = a} {c′ = b} e d) =
@@ -39,7 +39,7 @@ placed {p} {r} {c} {s} i v (lost {r′ = a} {c′ = b} e d) = white-inside p r c
 
 pub tries : {p : Picture} {map : List ℕ} {r s i v : ℕ} {w : Way} {rows exits work : List ℕ} {tail : ℕ} {rows′ work′ : List ℕ} {tail′ : ℕ}
     → Grounds p map → Found p map r → Queue p map rows work tail → length work ≡ codels p → s < 8
-    → Leaves map (rowsOf p) (colsOf p) (ofNumber s) r i → Attempt p (i / colsOf p) (i % colsOf p) (ofNumber s) w → Placed p w
+    → LeavesBy map (rowsOf p) (colsOf p) (ofNumber s) r i → Attempt p (i / colsOf p) (i % colsOf p) (ofNumber s) w → InGrid p w
     → v ≡ wayNumber p map (codelColour p i) s w → Queued map (colsOf p) rows work tail w rows′ work′ tail′
     → Tries p map r s rows exits work tail rows′ (set exits (exitCell r s) v) work′ tail′
 tries {p} {map} {r} {s} {i} {v} {w} G f Q long h l a inside e d =
@@ -92,18 +92,18 @@ module _ (p : Picture) (map : List ℕ) (from s x cols : ℕ) (e : cols ≡ cols
   unfolding wayNumber
   step-number a b i to n d t = rw (n, e, d, t)
 
-  pub glide-number : (a b c d n : ℕ) (t : PointerState) → x ≡ exitNumber (getD map (c * cols + d) 0) n 0 → n ≡ numberOf t → x ≡ wayNumber p map from s (Glide a b c d t)
+  pub glide-number : (a b c d n : ℕ) (t : PointerState) → x ≡ exitNumber (getD map (c * cols + d) 0) n 0 → n ≡ stateNumber t → x ≡ wayNumber p map from s (Glide a b c d t)
   unfolding wayNumber
   glide-number a b c d n t h k = rw (h, e, k)
 
 -- what the code reads of the codel to leave by: j is its index, i and cols are what was read
-module _ {p : Picture} {map : List ℕ} {r j : ℕ} (s : ℕ) (G : Grounds p map) (l : Leaves map (rowsOf p) (colsOf p) (ofNumber s) r j) {i cols : ℕ} (ei : i ≡ j) (ec : cols ≡ colsOf p) where
+module _ {p : Picture} {map : List ℕ} {r j : ℕ} (s : ℕ) (G : Grounds p map) (l : LeavesBy map (rowsOf p) (colsOf p) (ofNumber s) r j) {i cols : ℕ} (ei : i ≡ j) (ec : cols ≡ colsOf p) where
   pub leave-inside : Inside p (i / cols) (i % cols)
   leave-inside = rw (ei, ec) (inside-of (G .sound) j (omega (arith, l .codel, G .long)))
 
   pub tries-read : {v from : ℕ} {q : PointerState} {w : Way} {rows exits work : List ℕ} {tail : ℕ} {rows′ work′ : List ℕ} {tail′ : ℕ}
       → Found p map r → Queue p map rows work tail → length work ≡ codels p → s < 8
-      → q ≡ ofNumber s → Attempt p (i / cols) (i % cols) q w → Placed p w
+      → q ≡ ofNumber s → Attempt p (i / cols) (i % cols) q w → InGrid p w
       → from ≡ colourAt p (i / cols) (i % cols) → v ≡ wayNumber p map from s w → Queued map (colsOf p) rows work tail w rows′ work′ tail′
       → Tries p map r s rows exits work tail rows′ (set exits (exitCell r s) v) work′ tail′
   tries-read {v} {from} {q} {w} f Q long h eq a inside ef e d =
@@ -115,7 +115,7 @@ module _ {p : Picture} {map : List ℕ} {r j : ℕ} (s : ℕ) (G : Grounds p map
 -- what the next of the eight attempts asks
 pub next-needs : {F : Type 0} {p : Picture} {map : List ℕ} {r k : ℕ} {rows exits work : List ℕ} {tail : ℕ} {rows′ exits′ work′ : List ℕ} {tail′ : ℕ}
     → Taken p map exits work r → Several p map r k rows exits work tail rows′ exits′ work′ tail′ → k < 8 → F
-    → Grounds p map × (Found p map r × (Queue p map rows′ work′ tail′ × (Leaves map (rowsOf p) (colsOf p) (ofNumber k) r (getD exits′ (exitCell r k) 0)
+    → Grounds p map × (Found p map r × (Queue p map rows′ work′ tail′ × (LeavesBy map (rowsOf p) (colsOf p) (ofNumber k) r (getD exits′ (exitCell r k) 0)
     × ((length work′ ≡ codels p) × ((exitsRoom r + 8 ≤ length exits′) × ((r < 65536) × ((k < 8) × F)))))))
 next-needs {r = r} {k = k} T W h f = (
   T .grounds,

@@ -3,7 +3,7 @@ use mathlib.Core.Path.{_≡_}
 use mathlib.Core.List.{List}
 use Prim.Native.Nat.{ℕ, _/_, _%_, _<_}
 use lib.ListN.{getD}
-use Rattle.flow.specs.Pointer.{numberOf, ofNumber}
+use Rattle.flow.specs.Pointer.{stateNumber, ofNumber}
 use Rattle.flow.specs.declared.PointerState.{PointerState}
 use Rattle.colour.specs.Decode.{decodeOf}
 use Rattle.colour.specs.Palette.{white}
@@ -12,7 +12,7 @@ use Rattle.table.specs.ExitNumber.{exitNumber}
 use Rattle.exit.specs.declared.attempt.Way.{Way}
 use Rattle.exit.specs.declared.attempt.Way.the-variants.{Closed, Step, Astray, Glide}
 use Rattle.exit.specs.Attempt.{Attempt}
-use Rattle.exit.specs.Leaving.{Leaves}
+use Rattle.exit.specs.Leaving.{LeavesBy}
 
 -- the region of the codel in row r and column c
 abbrev pub regionAt : Picture → List ℕ → ℕ → ℕ → ℕ
@@ -21,7 +21,7 @@ regionAt p map r c = getD map (indexOf p r c) 0
 -- the attempt of region r in state s: from the codel to leave by, the way w
 pub record Tried (p : Picture) (map : List ℕ) (r s : ℕ) (w : Way) : Type 0 where
   pub codel : ℕ
-  pub leaves : Leaves map (rowsOf p) (colsOf p) (ofNumber s) r codel
+  pub leaves : LeavesBy map (rowsOf p) (colsOf p) (ofNumber s) r codel
   pub way : Attempt p (codel / colsOf p) (codel % colsOf p) (ofNumber s) w
 
 -- the exit of a way, from a region of the colour `from` in state s: 0 where it is not open. "A coloured boundary gives its
@@ -30,7 +30,7 @@ unfoldable pub wayNumber : Picture → List ℕ → ℕ → ℕ → Way → ℕ
 wayNumber p map from s Closed = 0
 wayNumber p map from s (Astray a b) = 0
 wayNumber p map from s (Step a b) = exitNumber (regionAt p map a b) s (decodeOf from (colourAt p a b))
-wayNumber p map from s (Glide a b c d t) = exitNumber (regionAt p map c d) (numberOf t) 0
+wayNumber p map from s (Glide a b c d t) = exitNumber (regionAt p map c d) (stateNumber t) 0
 
 -- the regions that a way adds: "the region at each open-or-white boundary and the landing of its slide"
 pub data Adds (p : Picture) (map : List ℕ) : Way → ℕ → Type 0 where
@@ -49,7 +49,7 @@ pub record White (p : Picture) (map : List ℕ) (r : ℕ) : Type 0 where
   pub codel : ℕ
   pub inside : codel < codels p
   pub own : getD map codel 0 ≡ r
-  pub shade : codelColour p codel ≡ white
+  pub colour : codelColour p codel ≡ white
 
 -- a node: found, "white ones then left out"
 pub record Node (p : Picture) (map : List ℕ) (r : ℕ) : Type 0 where

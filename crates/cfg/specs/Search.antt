@@ -20,7 +20,7 @@ use Rattle.region.specs.Region.{IsMap}
 use Rattle.region.specs.Rows.{IsTable}
 use Rattle.exit.specs.declared.attempt.Way.{Way}
 use Rattle.exit.specs.declared.attempt.Way.the-variants.{Closed, Step, Astray, Glide}
-use Rattle.exit.specs.Leaving.{Leaves}
+use Rattle.exit.specs.Leaving.{LeavesBy}
 
 -- region r's mark
 abbrev pub mark : List ℕ → ℕ → ℕ
@@ -54,11 +54,11 @@ pub data Queued (map : List ℕ) (cols : ℕ) (rows work : List ℕ) (tail : ℕ
       → Queued map cols rows work tail (Glide a b c d t) rows″ work″ tail″
 
 -- the codels of a way are in the grid
-abbrev pub Placed : Picture → Way → Type 0
-Placed p Closed = 0 ≤ 0
-Placed p (Step a b) = Inside p a b
-Placed p (Astray a b) = Inside p a b
-Placed p (Glide a b c d t) = Inside p a b × Inside p c d × Valid t
+abbrev pub InGrid : Picture → Way → Type 0
+InGrid p Closed = 0 ≤ 0
+InGrid p (Step a b) = Inside p a b
+InGrid p (Astray a b) = Inside p a b
+InGrid p (Glide a b c d t) = Inside p a b × Inside p c d × Valid t
 
 -- a map of the picture, its numbers below the count of codels
 pub record Grounds (p : Picture) (map : List ℕ) : Type 0 where
@@ -123,7 +123,7 @@ pub record Several (p : Picture) (map : List ℕ) (r k : ℕ) (rows exits work :
 
 -- the exits hold the codels to leave by
 abbrev pub Leaving : Picture → List ℕ → List ℕ → ℕ → Type 0
-Leaving p map exits r = (s : ℕ) → s < 8 → Leaves map (rowsOf p) (colsOf p) (ofNumber s) r (getD exits (exitCell r s) 0)
+Leaving p map exits r = (s : ℕ) → s < 8 → LeavesBy map (rowsOf p) (colsOf p) (ofNumber s) r (getD exits (exitCell r s) 0)
 
 -- region r is taken from the queue: its exits hold the codels to leave by
 pub record Taken (p : Picture) (map exits work : List ℕ) (r : ℕ) : Type 0 where

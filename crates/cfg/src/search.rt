@@ -9,9 +9,9 @@ ghost use Rattle.flow.specs.Pointer.{Valid, ofNumber};
 ghost use Rattle.picture.specs.Picture.{pictureOf, rowsOf, colsOf, codels, Frames};
 ghost use Rattle.table.specs.ExitNumber.{exitNumber};
 ghost use Rattle.table.specs.Layout.{exitCell, exitsRoom};
-ghost use Rattle.exit.specs.Leaving.{Leaves};
+ghost use Rattle.exit.specs.Leaving.{LeavesBy};
 ghost use Rattle.cfg.specs.Nodes.{Found, wayNumber};
-ghost use Rattle.cfg.specs.Search.{Room, Visit, Queued, Placed, Grounds, Occurs, Queue, Tries, Several, Taken, Ready, Searched};
+ghost use Rattle.cfg.specs.Search.{Room, Visit, Queued, InGrid, Grounds, Occurs, Queue, Tries, Several, Taken, Ready, Searched};
 use exit::attempt::Way;
 use exit::attempt::attempt_from;
 use flow::PointerState;
@@ -69,7 +69,7 @@ fn queue_way(
     tail: usize,
 ) -> usize
     requires { ⌜ Grounds (pictureOf (now colours) s) (now map) ⌝ }
-    requires { ⌜ Placed (pictureOf (now colours) s) way ⌝ }
+    requires { ⌜ InGrid (pictureOf (now colours) s) way ⌝ }
     requires { ⌜ Room (now rows) (now work) tail ⌝ }
     requires { ⌜ length (now work) ≡ codels (pictureOf (now colours) s) ⌝ }
     requires { ⌜ Frames (now colours) s ⌝ }
@@ -106,7 +106,7 @@ fn exit_to(map: &[u32], at: usize, state: u8, instruction: u8) -> u32
 // The exit number of a way from a region of the colour from, in a state.
 fn way_number(colours: &[u8], s: Shape, map: &[u32], from: u8, state: u8, way: Way) -> u32
     requires { ⌜ Grounds (pictureOf (now colours) s) (now map) ⌝ }
-    requires { ⌜ Placed (pictureOf (now colours) s) way ⌝ }
+    requires { ⌜ InGrid (pictureOf (now colours) s) way ⌝ }
     requires { ⌜ state < 8 ⌝ }
     requires { ⌜ Frames (now colours) s ⌝ }
     ensures { λ r. ⌜ r ≡ wayNumber (pictureOf (now (colours .entry)) s) (now (map .entry)) from state way ⌝ }
@@ -149,7 +149,7 @@ fn try_state(
     requires { ⌜ Grounds (pictureOf (now colours) s) (now map) ⌝ }
     requires { ⌜ Found (pictureOf (now colours) s) (now map) r ⌝ }
     requires { ⌜ Queue (pictureOf (now colours) s) (now map) (now rows) (now work) tail ⌝ }
-    requires { ⌜ Leaves (now map) (rowsOf (pictureOf (now colours) s)) (colsOf (pictureOf (now colours) s)) (ofNumber state) r (getD (now exits) (exitCell r state) 0) ⌝ }
+    requires { ⌜ LeavesBy (now map) (rowsOf (pictureOf (now colours) s)) (colsOf (pictureOf (now colours) s)) (ofNumber state) r (getD (now exits) (exitCell r state) 0) ⌝ }
     requires { ⌜ length (now work) ≡ codels (pictureOf (now colours) s) ⌝ }
     requires { ⌜ exitsRoom r + 8 ≤ length (now exits) ⌝ }
     requires { ⌜ r < 65536 ⌝ }

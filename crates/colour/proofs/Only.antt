@@ -43,7 +43,7 @@ pub classify-only : {p : List ℕ} {h w s : ℕ} {before : List ℕ} {r r′ : C
 classify-only {p} {h} {w} {s} {before} {r} {r′} o o′ =
     let e : classify.numbered r ≡ classify.numbered r′ = o .answers ∙ sym (o′ .answers) in (
       sym (classified r) ∙ ap classifiedOf e ∙ classified r′,
-      o .leaves ∙ ap (λ (n : Numbers). unlessRefused n (lent (classify.shades p s) before) before) e ∙ sym (o′ .leaves),
+      o .leaves ∙ ap (λ (n : Numbers). unlessRefused n (lent (classify.coloursUnder p s) before) before) e ∙ sym (o′ .leaves),
     )
 
 -- two outcomes that `label` may have for one input are one

@@ -38,9 +38,9 @@ knownFirst (Known c ∷ fs) = suc (knownFirst fs)
 knownFirst (Unknown ∷ fs) = 0
 
 -- the colour number of a pixel
-unfoldable pub shade : ℕ → Found → ℕ
-shade s (Known c) = c
-shade s Unknown = substitute s
+unfoldable pub colourUnder : ℕ → Found → ℕ
+colourUnder s (Known c) = c
+colourUnder s Unknown = substitute s
 
 unfoldable pub found : List ℕ → List Found
 found p = map colourOf (pixelsOf p)
@@ -65,10 +65,10 @@ unfoldable pub answer : List ℕ → ℕ → ℕ → ℕ → ℕ → Numbers
 answer pixels height width setting room = first (refusals pixels height width setting room) (numbers 0 (0 ∷ 0 ∷ []))
 
 -- one colour number for each pixel
-unfoldable pub shades : List ℕ → ℕ → List ℕ
-shades pixels setting = map (shade setting) (found pixels)
+unfoldable pub coloursUnder : List ℕ → ℕ → List ℕ
+coloursUnder pixels setting = map (colourUnder setting) (found pixels)
 
 -- what a call answers and leaves
 pub record Outcome (pixels : List ℕ) (height width setting : ℕ) (before : List ℕ) (r : Classified) (after : List ℕ) : Type 0 where
   pub answers : numbered r ≡ answer pixels height width setting (length before)
-  pub leaves : after ≡ unlessRefused (numbered r) (lent (shades pixels setting) before) before
+  pub leaves : after ≡ unlessRefused (numbered r) (lent (coloursUnder pixels setting) before) before

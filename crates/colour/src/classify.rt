@@ -14,8 +14,8 @@ ghost use Rattle.colour.specs.Classify.{
   found,
   knownFirst,
   unknownPixel,
-  shade,
-  shades,
+  colourUnder,
+  coloursUnder,
 };
 use crate::palette::BLACK;
 use crate::palette::Found;
@@ -137,8 +137,8 @@ pub fn check(pixels: &[u8], height: usize, width: usize, setting: u8, room: usiz
 }
 
 // The colour number that a setting makes of what the table says.
-pub fn shade_of(setting: u8, f: Found) -> u8
-    ensures { λ r. ⌜ r ≡ shade setting f ⌝ }
+pub fn colour_under(setting: u8, f: Found) -> u8
+    ensures { λ r. ⌜ r ≡ colourUnder setting f ⌝ }
 {
     match f {
         Found::Known(c) => c,
@@ -149,12 +149,12 @@ pub fn shade_of(setting: u8, f: Found) -> u8
 // One colour for each of the n pixels.
 fn paint(pixels: &[u8], n: usize, setting: u8, colours: &mut [u8])
     requires { ⌜ (length (now pixels) ≡ 3 * n) × (n ≤ length (now colours)) ⌝ }
-    ensures { λ _. ⌜ now (colours .exit) ≡ lent (shades (now (pixels .entry)) setting) (now (colours .entry)) ⌝ }
+    ensures { λ _. ⌜ now (colours .exit) ≡ lent (coloursUnder (now (pixels .entry)) setting) (now (colours .entry)) ⌝ }
 {
     let mut i: usize = 0;
     while i < n {
         let f = found_at(pixels, i);
-        colours[i] = shade_of(setting, f);
+        colours[i] = colour_under(setting, f);
         i += 1;
     }
 }

@@ -11,11 +11,11 @@ use lib.Seq.{getD-set-same, getD-set-other, drop-length}
 use Rattle.base.specs.Lent.{filled}
 use Rattle.base.proofs.Over.{filled-zero}
 use Rattle.base.proofs.Tests.{by-size}
-use Rattle.flow.specs.Pointer.{Valid, numberOf, ofNumber}
+use Rattle.flow.specs.Pointer.{Valid, stateNumber, ofNumber}
 use Rattle.flow.proofs.Order.{number-small}
 use Rattle.flow.specs.declared.PointerState.{PointerState}
 use Rattle.table.specs.Layout.{exitCell}
-use Rattle.exit.specs.Leaving.{beats, Furthest, Leaves}
+use Rattle.exit.specs.Leaving.{beats, Furthest, LeavesBy}
 use Rattle.exit.specs.Keeping.{Mapped, Cells, cellOf, better, kept, Kept, AllKept}
 use Rattle.exit.proofs.LeavingLaws.{beats-self, beats-past}
 
@@ -61,7 +61,7 @@ module _ (map best : List ℕ) (rows cols : ℕ) (s : PointerState) (i : ℕ) (L
   Before l = (j : ℕ) → j < i → Furthest map rows cols s i (getD map j 0) (getD l (cellOf map s j) 0)
 
   earlier : Before best → (j : ℕ) → j < i → getD map j 0 ≡ getD map i 0 → Furthest map rows cols s i (getD map i 0) held
-  earlier B j l e = subst (λ (m : ℕ). Furthest map rows cols s i m (getD best (exitCell m (numberOf s)) 0)) e (B j l)
+  earlier B j l e = subst (λ (m : ℕ). Furthest map rows cols s i m (getD best (exitCell m (stateNumber s)) 0)) e (B j l)
 
   -- the better of codel i and the one held is the furthest of the first i + 1
   abbrev Weighed : ℕ → Type 0
@@ -116,7 +116,7 @@ module _ (map best : List ℕ) (rows cols : ℕ) (s : PointerState) (i : ℕ) (L
       → Furthest map rows cols s (i + 1) (getD map j 0) (getD (kept map best rows cols s i) (cellOf map s j) 0)
   next-best B j l true e =
       let m = eqb-true (getD map j 0) (getD map i 0) e in
-      subst (λ (r : ℕ). Furthest map rows cols s (i + 1) r (getD (kept map best rows cols s i) (exitCell r (numberOf s)) 0)) (sym m)
+      subst (λ (r : ℕ). Furthest map rows cols s (i + 1) r (getD (kept map best rows cols s i) (exitCell r (stateNumber s)) 0)) (sym m)
       (subst Weighed (sym (getD-set-same best (cellOf map s i) (better map rows cols s i held) 0 cell-in)) (weighed B))
   next-best B j l false e =
       let n = eqb-false (getD map j 0) (getD map i 0) e in
@@ -175,7 +175,7 @@ all-none map best rows cols = record { same-length = refl; leaves = λ s l. absu
     none j l = omega arith
 
 -- cells of two states are apart
-apart : (x y s n : ℕ) → s < n → exitCell x (numberOf (ofNumber n)) ≡ exitCell y (numberOf (ofNumber s)) → n < 8 → ⊥
+apart : (x y s n : ℕ) → s < n → exitCell x (stateNumber (ofNumber n)) ≡ exitCell y (stateNumber (ofNumber s)) → n < 8 → ⊥
 apart x y s n l e h = omega arith
 
 pub all-more : (map before best after : List ℕ) (rows cols n : ℕ) → n < 8 → AllKept map before best rows cols n
@@ -185,10 +185,10 @@ all-more map before best after rows cols n h A K =
       same-length = K .same-length ∙ A .same-length;
       leaves = λ s l j m. last-or s n l
           (λ o.
-          subst (Leaves map rows cols (ofNumber s) (getD map j 0))
+          subst (LeavesBy map rows cols (ofNumber s) (getD map j 0))
           (sym (K .others (cellOf map (ofNumber s) j) (λ i _ e. apart (getD map i 0) (getD map j 0) s n o e h)))
           (A .leaves s o j m))
-          (λ o. subst (λ (t : ℕ). Leaves map rows cols (ofNumber t) (getD map j 0) (getD after (cellOf map (ofNumber t) j) 0)) (sym o) (K .best j m));
+          (λ o. subst (λ (t : ℕ). LeavesBy map rows cols (ofNumber t) (getD map j 0) (getD after (cellOf map (ofNumber t) j) 0)) (sym o) (K .best j m));
       others = λ k none.
           K .others k (λ j l e. none n (omega arith) j l e)
           ∙ A .others k (λ s l j m e. none s (omega arith) j m e);

@@ -21,7 +21,7 @@ use Rattle.exit.specs.declared.attempt.Way.{Way}
 use Rattle.exit.specs.Slide.{mostTurns, Slide, lost, turn, move, land}
 use Rattle.exit.specs.Attempt as attempts
 use Rattle.exit.specs.Attempt.{Attempt, shut, step, glide}
-use Rattle.exit.specs.Leaving.{Leaves}
+use Rattle.exit.specs.Leaving.{LeavesBy}
 use Rattle.exit.specs.Keeping.{cellOf, AllKept}
 use Rattle.exit.proofs.LeavingLaws.{neither}
 
@@ -84,7 +84,7 @@ attempt-only (attempts.lost e d) (attempts.lost f d′) = cc
 
 -- a region has one codel to leave by
 pub leaving-only : {map : List ℕ} {rows cols : ℕ} {s : PointerState} {region i j : ℕ} → 0 < cols → length map ≡ rows * cols → Valid s
-    → Leaves map rows cols s region i → Leaves map rows cols s region j → i ≡ j
+    → LeavesBy map rows cols s region i → LeavesBy map rows cols s region j → i ≡ j
 leaving-only {map} {rows} {cols} {s} {region} {i} {j} h l v x y =
     neither rows cols s h v i j (subst (λ (n : ℕ). i < n) l (x .codel)) (subst (λ (n : ℕ). j < n) l (y .codel))
     (y .unbeaten i (x .codel) (x .own)) (x .unbeaten j (y .codel) (y .own))

@@ -6,10 +6,10 @@ use mathlib.Core.List.{List}
 use Prim.Native.Nat.{ℕ, _*_, _<_, _≤_}
 use lib.Dec.{eqb}
 use lib.ListN.{length, getD, set}
-use Rattle.flow.specs.Pointer.{numberOf, ofNumber}
+use Rattle.flow.specs.Pointer.{stateNumber, ofNumber}
 use Rattle.flow.specs.declared.PointerState.{PointerState}
 use Rattle.table.specs.Layout.{exitCell, exitsRoom}
-use Rattle.exit.specs.Leaving.{beats, Furthest, Leaves}
+use Rattle.exit.specs.Leaving.{beats, Furthest, LeavesBy}
 
 -- a map of a grid that is not empty: at most 65,536 codels, no more regions than codels, and so many cells as document 01
 -- asks room for
@@ -28,7 +28,7 @@ pub record Cells (map best : List ℕ) (rows cols : ℕ) : Type 0 where
 
 -- the cell of the region of codel j in state s
 abbrev pub cellOf : List ℕ → PointerState → ℕ → ℕ
-cellOf map s j = exitCell (getD map j 0) (numberOf s)
+cellOf map s j = exitCell (getD map j 0) (stateNumber s)
 
 -- of codel i and the one kept so far: i, where j is of another region or beaten
 unfoldable pub better : List ℕ → ℕ → ℕ → PointerState → ℕ → ℕ → ℕ
@@ -49,6 +49,6 @@ pub record Kept (map before after : List ℕ) (rows cols : ℕ) (s : PointerStat
 pub record AllKept (map before after : List ℕ) (rows cols n : ℕ) : Type 0 where
   pub same-length : length after ≡ length before
   pub leaves : (s : ℕ) → s < n → (j : ℕ) → j < length map
-      → Leaves map rows cols (ofNumber s) (getD map j 0) (getD after (cellOf map (ofNumber s) j) 0)
+      → LeavesBy map rows cols (ofNumber s) (getD map j 0) (getD after (cellOf map (ofNumber s) j) 0)
   pub others : (k : ℕ) → ((s : ℕ) → s < n → (j : ℕ) → j < length map → cellOf map (ofNumber s) j ≡ k → ⊥)
       → getD after k 0 ≡ getD before k 0

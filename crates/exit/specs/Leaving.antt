@@ -40,5 +40,5 @@ pub record Furthest (map : List ℕ) (rows cols : ℕ) (s : PointerState) (n reg
   pub unbeaten : (j : ℕ) → j < n → getD map j 0 ≡ region → beats rows cols s j i ≡ false
 
 -- codel i is the one to leave the region by
-abbrev pub Leaves : List ℕ → ℕ → ℕ → PointerState → ℕ → ℕ → Type 0
-Leaves map rows cols s region i = Furthest map rows cols s (length map) region i
+abbrev pub LeavesBy : List ℕ → ℕ → ℕ → PointerState → ℕ → ℕ → Type 0
+LeavesBy map rows cols s region i = Furthest map rows cols s (length map) region i

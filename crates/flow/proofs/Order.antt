@@ -10,7 +10,7 @@ use Rattle.base.proofs.Table.{all, all-at}
 use Rattle.flow.specs.declared.PointerState.{PointerState}
 use Rattle.flow.specs.Pointer.{
   Valid,
-  numberOf,
+  stateNumber,
   ofNumber,
   offsetOf,
   attemptOf,
@@ -27,10 +27,10 @@ pub same-state : (p q : PointerState) → p .dp ≡ q .dp → p .cc ≡ q .cc �
 same-state p q d c = λ i. record { dp = d i; cc = c i }
 
 -- a state and its number say the same
-pub of-number : (p : PointerState) → Valid p → ofNumber (numberOf p) ≡ p
+pub of-number : (p : PointerState) → Valid p → ofNumber (stateNumber p) ≡ p
 of-number p h = same-state _ _ (omega arith) (omega arith)
 
-pub number-small : (p : PointerState) → Valid p → numberOf p < 8
+pub number-small : (p : PointerState) → Valid p → stateNumber p < 8
 number-small p h = omega arith
 
 pub valid-number : (s : ℕ) → s < 8 → Valid (ofNumber s)
@@ -63,15 +63,15 @@ attempted p k = record { dp = (p .dp + k / 2) % 4; cc = (p .cc + k + k / 2) % 2 
 
 -- tests over all eight states, which antt computes
 attempt-test : ℕ → ℕ → Bool
-attempt-test s k = eqb (numberOf (attempted (ofNumber s) k)) (numberOf (attemptOf (ofNumber s) k))
+attempt-test s k = eqb (stateNumber (attempted (ofNumber s) k)) (stateNumber (attemptOf (ofNumber s) k))
 
 offset-test : ℕ → ℕ → Bool
 offset-test s k = eqb (offsetOf (ofNumber s) (attemptOf (ofNumber s) k)) k
 
 target-test : ℕ → ℕ → Bool
-target-test s t = eqb (numberOf (attemptOf (ofNumber s) (offsetOf (ofNumber s) (ofNumber t)))) t
+target-test s t = eqb (stateNumber (attemptOf (ofNumber s) (offsetOf (ofNumber s) (ofNumber t)))) t
 
-attempt-table : (s k : ℕ) → s < 8 → k < 8 → numberOf (attempted (ofNumber s) k) ≡ numberOf (attemptOf (ofNumber s) k)
+attempt-table : (s k : ℕ) → s < 8 → k < 8 → stateNumber (attempted (ofNumber s) k) ≡ stateNumber (attemptOf (ofNumber s) k)
 unfolding attempt-test attemptOf
 attempt-table s k hs hk = eqb→eq _ _ (all-at 8 (attempt-test s) (all-at 8 (λ x. all 8 (attempt-test x)) tt s hs) k hk)
 
@@ -79,7 +79,7 @@ offset-table : (s k : ℕ) → s < 8 → k < 8 → offsetOf (ofNumber s) (attemp
 unfolding offset-test attemptOf
 offset-table s k hs hk = eqb→eq _ _ (all-at 8 (offset-test s) (all-at 8 (λ x. all 8 (offset-test x)) tt s hs) k hk)
 
-target-table : (s t : ℕ) → s < 8 → t < 8 → numberOf (attemptOf (ofNumber s) (offsetOf (ofNumber s) (ofNumber t))) ≡ t
+target-table : (s t : ℕ) → s < 8 → t < 8 → stateNumber (attemptOf (ofNumber s) (offsetOf (ofNumber s) (ofNumber t))) ≡ t
 unfolding target-test attemptOf
 target-table s t hs ht = eqb→eq _ _ (all-at 8 (target-test s) (all-at 8 (λ x. all 8 (target-test x)) tt s hs) t ht)
 
@@ -88,28 +88,28 @@ pub attempted-is : (p : PointerState) (k : ℕ) → Valid p → k < 8 → attemp
 attempted-is p k h hk =
     sym (of-number (attempted p k) (record { dp = omega arith; cc = omega arith }))
     ∙ ap ofNumber
-    (subst (λ (q : PointerState). numberOf (attempted q k) ≡ numberOf (attemptOf q k)) (of-number p h)
-    (attempt-table (numberOf p) k (number-small p h) hk))
+    (subst (λ (q : PointerState). stateNumber (attempted q k) ≡ stateNumber (attemptOf q k)) (of-number p h)
+    (attempt-table (stateNumber p) k (number-small p h) hk))
     ∙ of-number (attemptOf p k) (valid-attempt p k h)
 
 -- document 01's number of the page's k-th attempt is k
 pub offset-attempt : (p : PointerState) (k : ℕ) → Valid p → k < 8 → offsetOf p (attemptOf p k) ≡ k
 offset-attempt p k h hk =
     subst (λ (q : PointerState). offsetOf q (attemptOf q k) ≡ k) (of-number p h)
-    (offset-table (numberOf p) k (number-small p h) hk)
+    (offset-table (stateNumber p) k (number-small p h) hk)
 
 -- the attempt with a state's number is that state: "No two states tie"
 pub attempt-offset : (p t : PointerState) → Valid p → Valid t → attemptOf p (offsetOf p t) ≡ t
 attempt-offset p t hp ht =
     sym (of-number (attemptOf p (offsetOf p t)) (valid-attempt p (offsetOf p t) hp))
-    ∙ ap ofNumber (subst (λ (q : PointerState). numberOf (attemptOf q (offsetOf q t)) ≡ numberOf t) (of-number p hp) from-number)
+    ∙ ap ofNumber (subst (λ (q : PointerState). stateNumber (attemptOf q (offsetOf q t)) ≡ stateNumber t) (of-number p hp) from-number)
     ∙ of-number t ht
   where
-    from-number : numberOf (attemptOf (ofNumber (numberOf p)) (offsetOf (ofNumber (numberOf p)) t)) ≡ numberOf t
+    from-number : stateNumber (attemptOf (ofNumber (stateNumber p)) (offsetOf (ofNumber (stateNumber p)) t)) ≡ stateNumber t
     from-number =
-        subst (λ (u : PointerState). numberOf (attemptOf (ofNumber (numberOf p)) (offsetOf (ofNumber (numberOf p)) u)) ≡ numberOf t)
+        subst (λ (u : PointerState). stateNumber (attemptOf (ofNumber (stateNumber p)) (offsetOf (ofNumber (stateNumber p)) u)) ≡ stateNumber t)
         (of-number t ht)
-        (target-table (numberOf p) (numberOf t) (number-small p hp) (number-small t ht))
+        (target-table (stateNumber p) (stateNumber t) (number-small p hp) (number-small t ht))
 
 pub offset-small : (p t : PointerState) → offsetOf p t < 8
 offset-small p t = omega arith

@@ -13,8 +13,8 @@ pub record Valid (p : PointerState) : Type 0 where
   pub cc : p .cc < 2
 
 -- "A pointer state is 2 x dp + cc"
-abbrev pub numberOf : PointerState → ℕ
-numberOf p = 2 * p .dp + p .cc
+abbrev pub stateNumber : PointerState → ℕ
+stateNumber p = 2 * p .dp + p .cc
 
 abbrev pub ofNumber : ℕ → PointerState
 ofNumber s = record { dp = s / 2; cc = s % 2 }

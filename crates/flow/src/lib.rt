@@ -1,7 +1,7 @@
 // The pointer pair and its turns, the order of the eight attempts, the codel ahead (`flow.rs`).
 ghost use mathlib.Core.Path.{_≡_};
 ghost use Prim.Native.Nat.{_<_};
-ghost use Rattle.flow.specs.Pointer.{Valid, rotated, switched, turnedOnce, offsetOf, attemptOf, numberOf, ofNumber};
+ghost use Rattle.flow.specs.Pointer.{Valid, rotated, switched, turnedOnce, offsetOf, attemptOf, stateNumber, ofNumber};
 ghost use Rattle.flow.specs.Neighbour.{aheadOf};
 
 // The pointer pair, by value: dp right, down, left, up 0 to 3; cc left, right 0, 1.
@@ -25,7 +25,7 @@ impl PointerState {
     // 2 x dp + cc.
     pub fn number(self) -> u8
         requires { ⌜ Valid self ⌝ }
-        ensures { λ r. ⌜ r ≡ numberOf self ⌝ }
+        ensures { λ r. ⌜ r ≡ stateNumber self ⌝ }
     {
         2 * self.dp + self.cc
     }
@@ -88,40 +88,40 @@ impl PointerState {
 }
 
 // The codel one step along dp, or none at the edge.
-pub enum Next {
+pub enum Ahead {
     Codel { row: usize, col: usize },
     Outside,
 }
 
 // `MOVE_IN`: the wrapping moves of the Rust become tests of the grid's bounds.
-pub fn ahead(rows: usize, cols: usize, row: usize, col: usize, dp: u8) -> Next
+pub fn ahead(rows: usize, cols: usize, row: usize, col: usize, dp: u8) -> Ahead
     requires { ⌜ (row < rows) × (col < cols) ⌝ }
     ensures { λ r. ⌜ r ≡ aheadOf rows cols row col dp ⌝ }
 {
     match dp {
         0 => {
             if col + 1 < cols {
-                return Next::Codel { row, col: col + 1 };
+                return Ahead::Codel { row, col: col + 1 };
             }
-            Next::Outside
+            Ahead::Outside
         }
         1 => {
             if row + 1 < rows {
-                return Next::Codel { row: row + 1, col };
+                return Ahead::Codel { row: row + 1, col };
             }
-            Next::Outside
+            Ahead::Outside
         }
         2 => {
             if 0 < col {
-                return Next::Codel { row, col: col - 1 };
+                return Ahead::Codel { row, col: col - 1 };
             }
-            Next::Outside
+            Ahead::Outside
         }
         _ => {
             if 0 < row {
-                return Next::Codel { row: row - 1, col };
+                return Ahead::Codel { row: row - 1, col };
             }
-            Next::Outside
+            Ahead::Outside
         }
     }
 }

@@ -9,7 +9,7 @@ use Rattle.base.specs.Numbers.{Numbers, numbers}
 use Rattle.flow.specs.Pointer.{attemptOf}
 use Rattle.stack.specs.Instr.{pop}
 use Rattle.machine.specs.Machine.{statusOf, read, exec, fitting}
-use Rattle.machine.specs.Held.{Lent, lent}
+use Rattle.machine.specs.Held.{Slices, slices}
 use Rattle.interpreter.specs.Table.{openFrom, any, every}
 use Rattle.interpreter.specs.Forever as Forever
 use Rattle.interpreter.specs.Run.{arrive, after, runOf}
@@ -23,12 +23,12 @@ abbrev exits : List ℕ
 exits = 524290 ∷ 589826 ∷ 0 ∷ 0 ∷ 0 ∷ 0 ∷ 0 ∷ 0 ∷ 0 ∷ 0 ∷ 0 ∷ 0 ∷ 1310721 ∷ 1376257 ∷ 0 ∷ 0 ∷ []
 
 -- slices that hold something before the call
-abbrev slices : Lent
-slices = lent (pos 7 ∷ pos 8 ∷ pos 9 ∷ []) (5 ∷ []) (pos 6 ∷ pos 6 ∷ [])
+abbrev slices : Slices
+slices = slices (pos 7 ∷ pos 8 ∷ pos 9 ∷ []) (5 ∷ []) (pos 6 ∷ pos 6 ∷ [])
 
 -- "status 2, steps 3, at RegRed_0_1 0 0, stack 1 1, out 0"; all other cells hold 0
 pub job : (numbered (outcomeOf 2 rows exits 3 false [] slices .answer) ≡ numbers 0 (2 ∷ 3 ∷ 1 ∷ 0 ∷ 0 ∷ 1 ∷ 0 ∷ 0 ∷ []))
-    × (outcomeOf 2 rows exits 3 false [] slices .slices ≡ lent (pos 1 ∷ pos 0 ∷ pos 0 ∷ []) (0 ∷ []) (pos 0 ∷ pos 0 ∷ []))
+    × (outcomeOf 2 rows exits 3 false [] slices .slices ≡ slices (pos 1 ∷ pos 0 ∷ pos 0 ∷ []) (0 ∷ []) (pos 0 ∷ pos 0 ∷ []))
 unfolding attemptOf pop statusOf exec fitting openFrom any arrive after runOf numbered
 job = (refl, refl)
 
@@ -49,7 +49,7 @@ forever = (refl, refl, refl)
 -- a run of one region with one exit, or none, and no room
 abbrev alone : ℕ → ℕ → Bool → Numbers
 alone exit limit mode =
-    numbered (outcomeOf 1 (6 ∷ 3 ∷ 0 ∷ 0 ∷ 1 ∷ []) (exit ∷ 0 ∷ 0 ∷ 0 ∷ 0 ∷ 0 ∷ 0 ∷ 0 ∷ []) limit mode [] (lent [] [] []) .answer)
+    numbered (outcomeOf 1 (6 ∷ 3 ∷ 0 ∷ 0 ∷ 1 ∷ []) (exit ∷ 0 ∷ 0 ∷ 0 ∷ 0 ∷ 0 ∷ 0 ∷ 0 ∷ []) limit mode [] (slices [] [] []) .answer)
 
 -- no exit: "Completed, 0 steps; limit 0, MaxSteps"
 pub stops-at-once : (alone 0 5 false ≡ numbers 0 (1 ∷ 0 ∷ 0 ∷ 0 ∷ 0 ∷ 0 ∷ 0 ∷ 0 ∷ []))
@@ -61,7 +61,7 @@ stops-at-once = (refl, refl)
 abbrev two : ℕ → ℕ → Bool → Outcome
 two exit limit mode =
     outcomeOf 2 (6 ∷ 3 ∷ 0 ∷ 0 ∷ 1 ∷ 7 ∷ 5 ∷ 0 ∷ 1 ∷ 1 ∷ [])
-    (exit ∷ 0 ∷ 0 ∷ 0 ∷ 0 ∷ 0 ∷ 0 ∷ 0 ∷ 0 ∷ 0 ∷ 0 ∷ 0 ∷ 0 ∷ 0 ∷ 0 ∷ 0 ∷ []) limit mode [] (lent (pos 9 ∷ []) [] [])
+    (exit ∷ 0 ∷ 0 ∷ 0 ∷ 0 ∷ 0 ∷ 0 ∷ 0 ∷ 0 ∷ 0 ∷ 0 ∷ 0 ∷ 0 ∷ 0 ∷ 0 ∷ 0 ∷ []) limit mode [] (slices (pos 9 ∷ []) [] [])
 
 -- the exit 8,388,610 to the second with IntIn, in abstract mode: MaxSteps before NeedsInput, NeedsInput before Completed
 pub in-order : (numbered (two 8388610 1 true .answer) ≡ numbers 0 (2 ∷ 1 ∷ 1 ∷ 0 ∷ 0 ∷ 0 ∷ 0 ∷ 0 ∷ []))
@@ -71,7 +71,7 @@ in-order = (refl, refl)
 
 -- the exit 524,290 to the second with Push: the size of the block just left
 pub block-left : (numbered (two 524290 5 false .answer) ≡ numbers 0 (1 ∷ 1 ∷ 1 ∷ 0 ∷ 0 ∷ 1 ∷ 0 ∷ 0 ∷ []))
-    × (two 524290 5 false .slices ≡ lent (pos 3 ∷ []) [] [])
+    × (two 524290 5 false .slices ≡ slices (pos 3 ∷ []) [] [])
 unfolding attemptOf statusOf exec fitting openFrom any arrive after runOf numbered
 block-left = (refl, refl)
 

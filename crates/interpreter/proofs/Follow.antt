@@ -14,16 +14,16 @@ use lib.ListN.{length}
 use Rattle.machine.specs.declared.Stop.the-variants.{Completed, NeedsInput, StackFull, OutputFull}
 use Rattle.machine.specs.Machine.{Store, Effect, does, bad-input, Out, keeps, stops, fitting}
 use Rattle.interpreter.specs.Table.{tried, exitOf}
-use Rattle.interpreter.specs.Run.{Job, Machine, Next, goes, halts, arrive, effectOf, through, leave, stepOf, after, runOf}
+use Rattle.interpreter.specs.Run.{Job, Machine, Went, goes, halts, arrive, effectOf, through, leave, stepOf, after, runOf}
 use Rattle.table.specs.ExitNumber.{targetOf}
 use Rattle.interpreter.proofs.Attempts.{First, open-first, open-none}
 use Rattle.interpreter.proofs.Moves.{clash, counts}
 
-store-of : Next → Store → Store
+store-of : Went → Store → Store
 store-of (goes m) s = m .store
 store-of (halts x) s = s
 
-region-of : Next → ℕ
+region-of : Went → ℕ
 region-of (goes m) = m .region
 region-of (halts x) = 0
 
@@ -46,7 +46,7 @@ module _ (j : Job) where
 
   keeps-is : (w : ℕ) (m m′ : Machine) (o : Out) → arrive w m o ≡ goes m′ → (o ≡ keeps (m′ .store)) × (m′ .region ≡ targetOf w)
   unfolding store-of region-of arrive
-  keeps-is w m m′ (keeps s) e = (ap (λ (x : Next). keeps (store-of x s)) e, sym (ap region-of e))
+  keeps-is w m m′ (keeps s) e = (ap (λ (x : Went). keeps (store-of x s)) e, sym (ap region-of e))
   keeps-is w m m′ (stops s) e = clash cc
 
   pub move-is : (m m′ : Machine) → stepOf j m ≡ goes m′ → Move m m′
@@ -122,7 +122,7 @@ module _ (j : Job) where
   ends-completed zero m e = clash cc
   ends-completed (suc k) m e = go (stepOf j m) refl e (ends-completed k)
     where
-      go : (x : Next) → stepOf j m ≡ x → after (runOf j k) m x .stop ≡ Completed
+      go : (x : Went) → stepOf j m ≡ x → after (runOf j k) m x .stop ≡ Completed
           → ((m′ : Machine) → runOf j k m′ .stop ≡ Completed → Shut (runOf j k m′ .at) × (runOf j k m′ .at .steps < m′ .steps + k))
           → Shut (after (runOf j k) m x .at) × (after (runOf j k) m x .at .steps < m .steps + suc k)
       go (goes m′) p e f = let r = f m′ e in (r .0, omega (arith, r .1, counts j m m′ p))

@@ -12,7 +12,7 @@ use lib.ListN.{length}
 use Rattle.machine.specs.declared.Stop.the-variants.{Completed, MaxSteps, NeedsInput, StackFull, OutputFull}
 use Rattle.machine.specs.Machine.{Effect, does, bad-input, Out, keeps, stops, fitting}
 use Rattle.interpreter.specs.Table.{exitOf}
-use Rattle.interpreter.specs.Run.{Job, Machine, Next, goes, halts, arrive, effectOf, through, leave, stepOf, End, after, runOf}
+use Rattle.interpreter.specs.Run.{Job, Machine, Went, goes, halts, arrive, effectOf, through, leave, stepOf, End, after, runOf}
 
 -- two constructors are never equal
 pub clash : {X : Type 0} → _≡_ {A = ℕ} 0 1 → X
@@ -32,7 +32,7 @@ module _ (j : Job) where
   unfolding arrive
   arrive-counts w m m′ (keeps s) e = ap steps-of (sym e)
     where
-      steps-of : Next → ℕ
+      steps-of : Went → ℕ
       steps-of (goes m) = m .steps
       steps-of (halts s) = 0
   arrive-counts w m m′ (stops s) e = clash cc
@@ -65,7 +65,7 @@ module _ (j : Job) where
   reached zero m = record { count = 0; within = omega arith; moves = none; counted = omega arith }
   reached (suc k) m = go (stepOf j m) refl (reached k)
     where
-      go : (x : Next) → stepOf j m ≡ x → ((m′ : Machine) → Reached k m′ (runOf j k m′))
+      go : (x : Went) → stepOf j m ≡ x → ((m′ : Machine) → Reached k m′ (runOf j k m′))
           → Reached (suc k) m (after (runOf j k) m x)
       go (goes m′) e f =
           let r = f m′ in
@@ -109,7 +109,7 @@ module _ (j : Job) where
   at-limit zero m e = omega arith
   at-limit (suc k) m e = go (stepOf j m) refl e (at-limit k)
     where
-      go : (x : Next) → stepOf j m ≡ x → after (runOf j k) m x .stop ≡ MaxSteps
+      go : (x : Went) → stepOf j m ≡ x → after (runOf j k) m x .stop ≡ MaxSteps
           → ((m′ : Machine) → runOf j k m′ .stop ≡ MaxSteps → runOf j k m′ .at .steps ≡ m′ .steps + k)
           → after (runOf j k) m x .at .steps ≡ m .steps + suc k
       go (goes m′) p e f = omega (arith, f m′ e, counts m m′ p)

@@ -1,4 +1,4 @@
--- Two outcomes that a contract allows for one input are equal, answer and every lent list, for each public function:
+-- Two outcomes that a contract allows for one input are equal, answer and every slices list, for each public function:
 --     run                       run-only
 --     resume                    resume-only
 --     determine_runs_forever    forever-only
@@ -14,7 +14,7 @@ use Prim.Native.Nat.{ℕ}
 use native.Mathlib.Omega.{arith}
 use lib.IntN.{ℤ}
 use Rattle.base.specs.Numbers.{numbers, row, first}
-use Rattle.machine.specs.Held.{Lent}
+use Rattle.machine.specs.Held.{Slices}
 use Rattle.machine.proofs.Only.{AsLong}
 use Rattle.interpreter.specs.declared.State.{State}
 use Rattle.interpreter.specs.declared.Ended.{Ended}
@@ -30,7 +30,7 @@ use Rattle.interpreter.specs.Placed.{Resumed}
 use Rattle.interpreter.proofs.Moves.{clash}
 use Rattle.interpreter.proofs.Settled.{settled}
 
-module _ (n : ℕ) (rows exits : List ℕ) (limit : ℕ) (mode : Bool) (input : List ℕ) (l : Lent) where
+module _ (n : ℕ) (rows exits : List ℕ) (limit : ℕ) (mode : Bool) (input : List ℕ) (l : Slices) where
   pub run-only : {r r′ : Ran} {stack stack′ : List ℤ} {kinds kinds′ : List ℕ} {values values′ : List ℤ}
       → outcome r stack kinds values ≡ outcomeOf n rows exits limit mode input l
       → outcome r′ stack′ kinds′ values′ ≡ outcomeOf n rows exits limit mode input l
@@ -60,7 +60,7 @@ module _ (n : ℕ) (rows exits : List ℕ) (limit : ℕ) (mode : Bool) (input : 
       go true = refl
       go false = refl
 
-  -- 10 exactly where the table is not valid, and then "no lent byte changes"
+  -- 10 exactly where the table is not valid, and then "no slices byte changes"
   pub record Refusal (r : Ran) (stack : List ℤ) (kinds : List ℕ) (values : List ℤ) : Type 0 where
     pub given : validOf n rows exits ≡ false → numbered r ≡ refused
     pub only-then : (values : List ℕ) → numbered r ≡ numbers 10 values → validOf n rows exits ≡ false
@@ -97,9 +97,9 @@ module _ (n : ℕ) (rows exits : List ℕ) (limit : ℕ) (mode : Bool) (input : 
             λ _. (ap (λ (x : Outcome). x .slices .stack) q, ap (λ (x : Outcome). x .slices .kinds) q, ap (λ (x : Outcome). x .slices .values) q);
       }
 
--- a call leaves the length of a lent slice as it is
-module _ (n : ℕ) (rows exits : List ℕ) (limit : ℕ) (mode : Bool) (input : List ℕ) (l : Lent) (from : State) where
-  pub resume-only : (l′ l″ : Lent) (r r′ : Ended) → AsLong l′ l → AsLong l″ l
+-- a call leaves the length of a slices slice as it is
+module _ (n : ℕ) (rows exits : List ℕ) (limit : ℕ) (mode : Bool) (input : List ℕ) (l : Slices) (from : State) where
+  pub resume-only : (l′ l″ : Slices) (r r′ : Ended) → AsLong l′ l → AsLong l″ l
       → Resumed n rows exits limit mode input l from l′ r → Resumed n rows exits limit mode input l from l″ r′
       → (r ≡ r′) × (l′ ≡ l″)
   resume-only l′ l″ r r′ h k p q =

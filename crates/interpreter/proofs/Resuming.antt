@@ -1,6 +1,6 @@
 -- A larger limit, and a run in two parts.
 --     larger-limit            a larger limit tells nothing different of a run that stopped otherwise;
---     larger-limit-outcome    the same of a call, answer and every lent cell
+--     larger-limit-outcome    the same of a call, answer and every slices cell
 --     run-on                  a run of a + b steps is a run of a steps and, where that came to MaxSteps, of b steps from there
 --     resumes                 a run to the limit a that came to MaxSteps, resumed to the limit a + b, is the run to a + b;
 --     resume-on               the same of two calls of `resume`
@@ -13,12 +13,12 @@ use native.Mathlib.Omega.{arith}
 use Rattle.machine.proofs.Only.{AsLong}
 use Rattle.machine.specs.declared.Stop.{Stop}
 use Rattle.machine.specs.declared.Stop.the-variants.{Completed, MaxSteps, NeedsInput, StackFull, OutputFull, BadInput}
-use Rattle.machine.specs.Held.{Lent}
+use Rattle.machine.specs.Held.{Slices}
 use Rattle.interpreter.specs.declared.State.{State}
 use Rattle.interpreter.specs.declared.Ended.{Ended}
 use Rattle.interpreter.specs.Placed.{machineOf, Reaches, Resumed}
 use Rattle.interpreter.specs.Table.{validOf}
-use Rattle.interpreter.specs.Run.{Job, Machine, Next, goes, halts, stepOf, End, after, runOf, start}
+use Rattle.interpreter.specs.Run.{Job, Machine, Went, goes, halts, stepOf, End, after, runOf, start}
 use Rattle.interpreter.specs.declared.Ran.the-variants.{Refused}
 use Rattle.interpreter.specs.Outcome.{jobOf, finished, outcomeOf}
 use Rattle.interpreter.proofs.Running.{same-job}
@@ -33,14 +33,14 @@ module _ (j : Job) where
       suc-out : (k d : ℕ) → suc k + d ≡ suc (k + d)
       suc-out k d = omega arith
 
-      go : (x : Next) → (after (runOf j k) m x .stop ≡ MaxSteps → ⊥)
+      go : (x : Went) → (after (runOf j k) m x .stop ≡ MaxSteps → ⊥)
           → ((m′ : Machine) → (runOf j k m′ .stop ≡ MaxSteps → ⊥) → runOf j (k + d) m′ ≡ runOf j k m′)
           → after (runOf j (k + d)) m x ≡ after (runOf j k) m x
       go (goes m′) h f = f m′ h
       go (halts s) h f = refl
 
--- the same of a call: answer and every lent cell
-pub larger-limit-outcome : (n : ℕ) (rows exits : List ℕ) (limit d : ℕ) (mode : Bool) (input : List ℕ) (l : Lent)
+-- the same of a call: answer and every slices cell
+pub larger-limit-outcome : (n : ℕ) (rows exits : List ℕ) (limit d : ℕ) (mode : Bool) (input : List ℕ) (l : Slices)
     → (runOf (jobOf rows exits mode input l) limit start .stop ≡ MaxSteps → ⊥)
     → outcomeOf n rows exits (limit + d) mode input l ≡ outcomeOf n rows exits limit mode input l
 larger-limit-outcome n rows exits limit d mode input l h =
@@ -79,7 +79,7 @@ run-on j (suc a) b m = ap (λ (i : ℕ). runOf j i m) (suc-out a b) ∙ go (step
     suc-out : (k d : ℕ) → suc k + d ≡ suc (k + d)
     suc-out k d = omega arith
 
-    go : (x : Next) → stepOf j m ≡ x → ((m′ : Machine) → runOf j (a + b) m′ ≡ resumed (runOf j b) (runOf j a m′))
+    go : (x : Went) → stepOf j m ≡ x → ((m′ : Machine) → runOf j (a + b) m′ ≡ resumed (runOf j b) (runOf j a m′))
         → after (runOf j (a + b)) m x ≡ resumed (runOf j b) (after (runOf j a) m x)
     go (goes m′) e f = f m′
     go (halts s) e f = other (runOf j b) (record { stop = s; at = m }) s (λ q. never-max j m (e ∙ ap halts q))
@@ -99,7 +99,7 @@ resumes j a b e =
     left s q = omega arith
 
 -- the same of two calls of `resume`, one after the other: together they keep the promise of one
-pub resume-on : (n : ℕ) (rows exits : List ℕ) (a b : ℕ) (mode : Bool) (input : List ℕ) (l l₁ l₂ : Lent) (from : State) (r₁ r₂ : Ended)
+pub resume-on : (n : ℕ) (rows exits : List ℕ) (a b : ℕ) (mode : Bool) (input : List ℕ) (l l₁ l₂ : Slices) (from : State) (r₁ r₂ : Ended)
     → from .steps ≤ a → a ≤ b → AsLong l₁ l → Resumed n rows exits a mode input l from l₁ r₁ → r₁ .stop ≡ MaxSteps
     → Resumed n rows exits b mode input l₁ (r₁ .at) l₂ r₂ → Resumed n rows exits b mode input l from l₂ r₂
 resume-on n rows exits a b mode input l l₁ l₂ from r₁ r₂ h k long p stop q = subst (λ (x : End). Reaches n x l₂ r₂) same q

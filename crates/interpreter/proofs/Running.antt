@@ -6,15 +6,15 @@ use Prim.Native.Nat.{ℕ, suc, _+_, _-_, _<_, _≤_}
 use native.Mathlib.Omega.{arith}
 use Rattle.machine.specs.declared.Stop.{Stop}
 use Rattle.machine.specs.declared.Stop.the-variants.{MaxSteps}
-use Rattle.machine.specs.Held.{Lent}
+use Rattle.machine.specs.Held.{Slices}
 use Rattle.machine.proofs.Only.{AsLong}
-use Rattle.interpreter.specs.Run.{Job, Machine, Next, goes, halts, End, after, stepOf, runOf}
+use Rattle.interpreter.specs.Run.{Job, Machine, Went, goes, halts, End, after, stepOf, runOf}
 use Rattle.interpreter.specs.Outcome.{jobOf}
-use Rattle.interpreter.specs.Placed.{machineOf, Placed, nextOf, Leaves, Steps, Reaches}
+use Rattle.interpreter.specs.Placed.{machineOf, Placed, nextOf, After, Steps, Reaches}
 use Rattle.interpreter.specs.declared.State.{State}
 use Rattle.interpreter.specs.declared.Moved.the-variants.{To, Halted}
 
-pub same-job : (rows exits : List ℕ) (mode : Bool) (input : List ℕ) {l l₀ : Lent} → AsLong l l₀
+pub same-job : (rows exits : List ℕ) (mode : Bool) (input : List ℕ) {l l₀ : Slices} → AsLong l l₀
     → jobOf rows exits mode input l ≡ jobOf rows exits mode input l₀
 same-job rows exits mode input h = rw (h .stack, h .kinds, h .values) refl
 
@@ -34,7 +34,7 @@ spent j limit k m h = ap (λ (i : ℕ). runOf j i m) (none limit k h)
     none : (l k : ℕ) → l ≤ k → l - k ≡ 0
     none l k h = omega arith
 
-module _ (n : ℕ) (rows exits : List ℕ) (limit : ℕ) (mode : Bool) (input : List ℕ) (l₀ : Lent) (from : State) where
+module _ (n : ℕ) (rows exits : List ℕ) (limit : ℕ) (mode : Bool) (input : List ℕ) (l₀ : Slices) (from : State) where
   abbrev job : Job
   job = jobOf rows exits mode input l₀
 
@@ -42,7 +42,7 @@ module _ (n : ℕ) (rows exits : List ℕ) (limit : ℕ) (mode : Bool) (input : 
   whole = runOf job (limit - from .steps) (machineOf l₀ from)
 
   -- what is left to run gives the whole run
-  pub record Along (l : Lent) (at : State) : Type 0 where
+  pub record Along (l : Slices) (at : State) : Type 0 where
     pub placed : Placed n l at
     pub long : AsLong l l₀
     pub same : whole ≡ runOf job (limit - at .steps) (machineOf l at)
@@ -50,18 +50,18 @@ module _ (n : ℕ) (rows exits : List ℕ) (limit : ℕ) (mode : Bool) (input : 
   pub along-start : Placed n l₀ from → Along l₀ from
   along-start p = record { placed = p; long = record { stack = refl; kinds = refl; values = refl }; same = refl }
 
-  module _ {l : Lent} {at : State} (a : Along l at) where
+  module _ {l : Slices} {at : State} (a : Along l at) where
     -- what the definition does with what the step came to
-    onward : (x : Next) → at .steps < limit → x ≡ stepOf (jobOf rows exits mode input l) (machineOf l at)
+    onward : (x : Went) → at .steps < limit → x ≡ stepOf (jobOf rows exits mode input l) (machineOf l at)
         → whole ≡ after (runOf job (limit - (at .steps + 1))) (machineOf l at) x
     onward x h e =
         a .same ∙ unroll job limit (at .steps) (machineOf l at) h
         ∙ ap (after (runOf job (limit - (at .steps + 1))) (machineOf l at))
         (sym (e ∙ ap (λ (j : Job). stepOf j (machineOf l at)) (same-job rows exits mode input (a .long))))
 
-    pub along-next : {l′ : Lent} {at′ : State} → at .steps < limit
+    pub along-next : {l′ : Slices} {at′ : State} → at .steps < limit
         → Steps (stepOf (jobOf rows exits mode input l) (machineOf l at)) n l at l′ (To at′) → AsLong l′ l → Along l′ at′
-    unfolding Leaves nextOf after
+    unfolding After nextOf after
     along-next {l′} {at′} h s e = record {
       placed = s .leaves .0;
       long =
@@ -71,10 +71,10 @@ module _ (n : ℕ) (rows exits : List ℕ) (limit : ℕ) (mode : Bool) (input : 
           (sym (s .leaves .1));
     }
 
-    pub ends-halted : {l′ : Lent} (s : Stop) → at .steps < limit
+    pub ends-halted : {l′ : Slices} (s : Stop) → at .steps < limit
         → Steps (stepOf (jobOf rows exits mode input l) (machineOf l at)) n l at l′ (Halted s)
         → Reaches n whole l′ (record { stop = s; at = at })
-    unfolding Leaves nextOf after
+    unfolding After nextOf after
     ends-halted s h x =
         rw (onward (halts s) h (x .is), x .leaves) (record { placed = a .placed; stop = refl; at = refl })
 

@@ -12,11 +12,11 @@ use Rattle.stack.proofs.Cells.{stackOf-length}
 use Rattle.machine.specs.declared.Core.{Core}
 use Rattle.machine.specs.declared.Stop.{Stop}
 use Rattle.machine.specs.Output.{Emit, outsOf, Holds}
-use Rattle.machine.specs.Held.{Lent, lent, storeOf, Stands}
+use Rattle.machine.specs.Held.{Slices, slices, storeOf, Stands}
 use Rattle.machine.proofs.Only.{AsLong}
 use Rattle.machine.proofs.Emitting.{outs-length}
 use Rattle.interpreter.specs.Run.{Machine, End, runOf, start}
-use Rattle.interpreter.specs.Outcome.{cellsOf, kindsOf, valuesOf, lentOf, placeOf, Outcome, jobOf, finished}
+use Rattle.interpreter.specs.Outcome.{cellsOf, kindsOf, valuesOf, slicesOf, placeOf, Outcome, jobOf, finished}
 use Rattle.interpreter.specs.Placed.{machineOf, Reaches, Placed}
 use Rattle.interpreter.specs.declared.State.{State}
 use Rattle.interpreter.specs.declared.Ended.{Ended}
@@ -70,13 +70,13 @@ values-are kinds values n h =
     (whole (pos 0) values n (map (λ e. e .value) (outsOf kinds values n))
     (in-order (pos 0) (λ e. e .value) kinds values values (λ k. refl) n (h .values-room)) (h .values-clean))
 
-slices-are : (l l₀ : Lent) (at : Core) → AsLong l l₀ → Stands l at → l ≡ lentOf l₀ (storeOf l at)
+slices-are : (l l₀ : Slices) (at : Core) → AsLong l l₀ → Stands l at → l ≡ slicesOf l₀ (storeOf l at)
 slices-are l l₀ at n s =
     rw (← n .stack, ← n .kinds, ← n .values)
-    (λ i. lent (cells-are (l .stack) (at .depth) (s .lies) i) (kinds-are (l .kinds) (l .values) (at .outputs) (s .holds) i)
+    (λ i. slices (cells-are (l .stack) (at .depth) (s .lies) i) (kinds-are (l .kinds) (l .values) (at .outputs) (s .holds) i)
     (values-are (l .kinds) (l .values) (at .outputs) (s .holds) i))
 
-state-is : (l : Lent) (at : State) → at ≡ placeOf (machineOf l at)
+state-is : (l : Slices) (at : State) → at ≡ placeOf (machineOf l at)
 state-is l at =
     λ i. record {
       region = at .region;
@@ -91,10 +91,10 @@ state-is l at =
     }
 
 -- the answer and the slices of a run that reached e
-answered : Stop → State → Lent → Outcome
+answered : Stop → State → Slices → Outcome
 answered s at l = record { answer = Finished (record { stop = s; at = at }); slices = l }
 
-pub settled : (n : ℕ) (e : End) (l l₀ : Lent) (r : Ended) → AsLong l l₀ → Reaches n e l r
+pub settled : (n : ℕ) (e : End) (l l₀ : Slices) (r : Ended) → AsLong l l₀ → Reaches n e l r
     → record { answer = Finished r; slices = l } ≡ finished l₀ e
 unfolding answered
 settled n e l l₀ r h q =
@@ -102,7 +102,7 @@ settled n e l l₀ r h q =
     ∙ ap₂ (λ (s : Stop) (m : Machine). finished l₀ (record { stop = s; at = m })) (q .stop) (q .at)
 
 -- slices that were cleared
-pub from-start : (n : ℕ) (rows exits : List ℕ) (mode : Bool) (input : List ℕ) (limit : ℕ) (m : Machine) (l l₀ l′ : Lent) (r : Ended)
+pub from-start : (n : ℕ) (rows exits : List ℕ) (mode : Bool) (input : List ℕ) (limit : ℕ) (m : Machine) (l l₀ l′ : Slices) (r : Ended)
     → AsLong l l₀ → Reaches n (runOf (jobOf rows exits mode input l) (limit - 0) m) l′ r
     → Reaches n (runOf (jobOf rows exits mode input l₀) limit m) l′ r
 from-start n rows exits mode input limit m l l₀ l′ r h q =
@@ -110,7 +110,7 @@ from-start n rows exits mode input limit m l l₀ l′ r h q =
     subst (λ (x : End). Reaches n x l′ r) (ap₂ (λ j k. runOf j k m) (same-job rows exits mode input {l = l} {l₀ = l₀} h) e) q
 
 pub placed-start : (n : ℕ) (stack : List ℤ) (kinds : List ℕ) (values : List ℤ) → 0 < n → Clean (pos 0) stack
-    → Clean 0 kinds → Clean (pos 0) values → Placed n (lent stack kinds values) (placeOf start)
+    → Clean 0 kinds → Clean (pos 0) values → Placed n (slices stack kinds values) (placeOf start)
 placed-start n stack kinds values h s k v = record {
   stands = record {
     lies = record { room = omega arith; clean = λ i _. s i };

@@ -1,4 +1,4 @@
--- What a call of a run answers and leaves in the lent slices (document 01, "The run"). Assumes nothing.
+-- What a call of a run answers and leaves in the slices slices (document 01, "The run"). Assumes nothing.
 use mathlib.Core.Bool.{Bool, cond}
 use mathlib.Core.List.{List, [], _∷_, _++_, map, reverse}
 use Prim.Native.Nat.{ℕ, _-_}
@@ -8,7 +8,7 @@ use Rattle.base.specs.Numbers.{Numbers, numbers, Row, row}
 use Rattle.machine.specs.declared.Core.{Core}
 use Rattle.machine.specs.Output.{Emit}
 use Rattle.machine.specs.Machine.{Store, statusOf}
-use Rattle.machine.specs.Held.{Lent, lent, stackRoom, outRoom}
+use Rattle.machine.specs.Held.{Slices, slices, stackRoom, outRoom}
 use Rattle.interpreter.specs.declared.State.{State}
 use Rattle.interpreter.specs.declared.Ended.{Ended}
 use Rattle.interpreter.specs.declared.Ran.{Ran}
@@ -27,8 +27,8 @@ kindsOf room outs = map (λ e. e .kind) outs ++ replicate (room - length outs) 0
 abbrev pub valuesOf : ℕ → List Emit → List ℤ
 valuesOf room outs = map (λ e. e .value) outs ++ replicate (room - length outs) (pos 0)
 
-abbrev pub lentOf : Lent → Store → Lent
-lentOf l s = lent (cellsOf (length (l .stack)) (s .stack)) (kindsOf (length (l .kinds)) (s .outs)) (valuesOf (length (l .values)) (s .outs))
+abbrev pub slicesOf : Slices → Store → Slices
+slicesOf l s = slices (cellsOf (length (l .stack)) (s .stack)) (kindsOf (length (l .kinds)) (s .outs)) (valuesOf (length (l .values)) (s .outs))
 
 -- a store and a place, by numbers
 abbrev pub coreOf : Store → Core
@@ -40,22 +40,22 @@ placeOf m = record { region = m .region; steps = m .steps; core = coreOf (m .sto
 abbrev pub endedOf : End → Ended
 endedOf e = record { stop = e .stop; at = placeOf (e .at) }
 
--- the answer, and the three lent slices after the call
+-- the answer, and the three slices slices after the call
 pub record Outcome : Type 0 where
   pub answer : Ran
-  pub slices : Lent
+  pub slices : Slices
 
 abbrev pub outcome : Ran → List ℤ → List ℕ → List ℤ → Outcome
-outcome r stack kinds values = record { answer = r; slices = lent stack kinds values }
+outcome r stack kinds values = record { answer = r; slices = slices stack kinds values }
 
-abbrev pub jobOf : List ℕ → List ℕ → Bool → List ℕ → Lent → Job
+abbrev pub jobOf : List ℕ → List ℕ → Bool → List ℕ → Slices → Job
 jobOf rows exits mode input l = record { rows = rows; exits = exits; mode = mode; input = input; stackRoom = stackRoom l; outRoom = outRoom l }
 
-abbrev pub finished : Lent → End → Outcome
-finished l e = record { answer = Finished (endedOf e); slices = lentOf l (e .at .store) }
+abbrev pub finished : Slices → End → Outcome
+finished l e = record { answer = Finished (endedOf e); slices = slicesOf l (e .at .store) }
 
--- a run from the start; where the table is refused, "no lent byte changes"
-abbrev pub outcomeOf : ℕ → List ℕ → List ℕ → ℕ → Bool → List ℕ → Lent → Outcome
+-- a run from the start; where the table is refused, "no slices byte changes"
+abbrev pub outcomeOf : ℕ → List ℕ → List ℕ → ℕ → Bool → List ℕ → Slices → Outcome
 outcomeOf n rows exits limit mode input l =
     cond (validOf n rows exits) (finished l (runOf (jobOf rows exits mode input l) limit start))
     (record { answer = Refused; slices = l })

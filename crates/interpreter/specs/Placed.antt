@@ -3,7 +3,7 @@ use mathlib.Core.Path.{_≡_}
 use mathlib.Core.Bool.{Bool}
 use mathlib.Core.List.{List}
 use Prim.Native.Nat.{ℕ, _+_, _-_, _<_}
-use Rattle.machine.specs.Held.{Lent, storeOf, Stands}
+use Rattle.machine.specs.Held.{Slices, storeOf, Stands}
 use Rattle.interpreter.specs.declared.State.{State}
 use Rattle.interpreter.specs.declared.Ended.{Ended}
 use Rattle.interpreter.specs.declared.Ran.{Ran}
@@ -11,52 +11,52 @@ use Rattle.interpreter.specs.declared.Ran.the-variants.{Refused, Finishe
 use Rattle.interpreter.specs.declared.Moved.{Moved}
 use Rattle.interpreter.specs.declared.Moved.the-variants.{To, Halted}
 use Rattle.interpreter.specs.Table.{Good}
-use Rattle.interpreter.specs.Run.{Machine, Next, goes, halts, End, through, stepOf, runOf, start}
+use Rattle.interpreter.specs.Run.{Machine, Went, goes, halts, End, through, stepOf, runOf, start}
 use Rattle.interpreter.specs.Outcome.{jobOf}
 
-abbrev pub machineOf : Lent → State → Machine
+abbrev pub machineOf : Slices → State → Machine
 machineOf l at = record { region = at .region; steps = at .steps; store = storeOf l (at .core) }
 
 -- a place of a table of n regions, with the slices as they stand there
-pub record Placed (n : ℕ) (l : Lent) (at : State) : Type 0 where
+pub record Placed (n : ℕ) (l : Slices) (at : State) : Type 0 where
   pub stands : Stands l (at .core)
   pub inside : at .region < n
 
 -- what a step came to, by what the slices hold after it
-unfoldable pub nextOf : Lent → Moved → Next
+unfoldable pub nextOf : Slices → Moved → Went
 nextOf l (To at) = goes (machineOf l at)
 nextOf l (Halted s) = halts s
 
 -- "A step that can't be kept isn't taken, and everything stands as before it"
-unfoldable pub Leaves : ℕ → Lent → State → Lent → Moved → Type 0
-Leaves n l at l′ (To at′) = Placed n l′ at′ × (at′ .steps ≡ at .steps + 1)
-Leaves n l at l′ (Halted s) = l′ ≡ l
+unfoldable pub After : ℕ → Slices → State → Slices → Moved → Type 0
+After n l at l′ (To at′) = Placed n l′ at′ × (at′ .steps ≡ at .steps + 1)
+After n l at l′ (Halted s) = l′ ≡ l
 
 -- the place and the slices after a step are those of next
-pub record Steps (next : Next) (n : ℕ) (l : Lent) (at : State) (l′ : Lent) (r : Moved) : Type 0 where
+pub record Steps (next : Went) (n : ℕ) (l : Slices) (at : State) (l′ : Slices) (r : Moved) : Type 0 where
   pub is : nextOf l′ r ≡ next
-  pub leaves : Leaves n l at l′ r
+  pub leaves : After n l at l′ r
 
 -- the place and the slices in which a run ended are those of e, and it may be resumed from there
-pub record Reaches (n : ℕ) (e : End) (l : Lent) (r : Ended) : Type 0 where
+pub record Reaches (n : ℕ) (e : End) (l : Slices) (r : Ended) : Type 0 where
   pub placed : Placed n l (r .at)
   pub stop : r .stop ≡ e .stop
   pub at : machineOf l (r .at) ≡ e .at
 
 -- the promises of `go_through`, `step`, `resume` and `run_valid`
-abbrev pub Gone : ℕ → List ℕ → List ℕ → Bool → List ℕ → ℕ → Lent → State → Lent → Moved → Type 0
+abbrev pub Gone : ℕ → List ℕ → List ℕ → Bool → List ℕ → ℕ → Slices → State → Slices → Moved → Type 0
 Gone n rows exits mode input w l at l′ r = Steps (through (jobOf rows exits mode input l) w (machineOf l at)) n l at l′ r
 
-abbrev pub Stepped : ℕ → List ℕ → List ℕ → Bool → List ℕ → Lent → State → Lent → Moved → Type 0
+abbrev pub Stepped : ℕ → List ℕ → List ℕ → Bool → List ℕ → Slices → State → Slices → Moved → Type 0
 Stepped n rows exits mode input l at l′ r = Steps (stepOf (jobOf rows exits mode input l) (machineOf l at)) n l at l′ r
 
-abbrev pub Resumed : ℕ → List ℕ → List ℕ → ℕ → Bool → List ℕ → Lent → State → Lent → Ended → Type 0
+abbrev pub Resumed : ℕ → List ℕ → List ℕ → ℕ → Bool → List ℕ → Slices → State → Slices → Ended → Type 0
 Resumed n rows exits limit mode input l from l′ r = Reaches n (runOf (jobOf rows exits mode input l) (limit - from .steps) (machineOf l from)) l′ r
 
-abbrev pub Started : ℕ → List ℕ → List ℕ → ℕ → Bool → List ℕ → Lent → Lent → Ended → Type 0
+abbrev pub Started : ℕ → List ℕ → List ℕ → ℕ → Bool → List ℕ → Slices → Slices → Ended → Type 0
 Started n rows exits limit mode input l l′ r = Reaches n (runOf (jobOf rows exits mode input l) limit start) l′ r
 
 -- where a run ended it may be taken up again: what `resume` asks for holds there
-abbrev pub Resumable : ℕ → List ℕ → List ℕ → Ran → Lent → Type 0
+abbrev pub Resumable : ℕ → List ℕ → List ℕ → Ran → Slices → Type 0
 Resumable n rows exits Refused l = Unit {0}
 Resumable n rows exits (Finished e) l = Good n rows exits × Placed n l (e .at)

@@ -34,12 +34,12 @@ start = record {
 }
 
 -- what a step comes to
-pub data Next : Type 0 where
-  goes : Machine → Next
-  halts : Stop → Next
+pub data Went : Type 0 where
+  goes : Machine → Went
+  halts : Stop → Went
 
 -- where the instruction is kept: at the exit's target, "count one". "A step that can't be kept isn't taken"
-unfoldable pub arrive : ℕ → Machine → Out → Next
+unfoldable pub arrive : ℕ → Machine → Out → Went
 arrive w m (keeps s) = goes (record { region = targetOf w; steps = m .steps + 1; store = s })
 arrive w m (stops s) = halts s
 
@@ -48,15 +48,15 @@ module _ (j : Job) where
   abbrev pub effectOf : ℕ → Machine → Effect
   effectOf w m = exec (j .mode) (j .input) (sizeOf (j .rows) (m .region)) (opOf w) (withPointers (pointersOf w) (m .store))
 
-  abbrev pub through : ℕ → Machine → Next
+  abbrev pub through : ℕ → Machine → Went
   through w m = arrive w m (fitting (j .stackRoom) (j .outRoom) (effectOf w m))
 
   -- "no open attempt, 1 Completed. Then the step"
-  abbrev pub leave : ℕ → Machine → Next
+  abbrev pub leave : ℕ → Machine → Went
   leave w m = cond (eqb w 0) (halts Completed) (through w m)
 
   -- "in abstract mode after an input instruction, 3 NeedsInput"
-  abbrev pub stepOf : Machine → Next
+  abbrev pub stepOf : Machine → Went
   stepOf m = cond (m .store .awaiting) (halts NeedsInput) (leave (exitOf (j .exits) (m .region) (m .store .pointers)) m)
 
 -- where a run ends: why, and where it stands, which is as before a step that isn't taken
@@ -64,7 +64,7 @@ pub record End : Type 0 where
   pub stop : Stop
   pub at : Machine
 
-unfoldable pub after : (Machine → End) → Machine → Next → End
+unfoldable pub after : (Machine → End) → Machine → Went → End
 after more m (goes m′) = more m′
 after more m (halts s) = record { stop = s; at = m }
 

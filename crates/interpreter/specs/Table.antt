@@ -1,4 +1,4 @@
--- The lent table as a run reads it: refusal 10, a region's size, and the exit taken (document 01, "The run" and "Regions and
+-- The slices table as a run reads it: refusal 10, a region's size, and the exit taken (document 01, "The run" and "Regions and
 -- exits"). Where rows and exits stand, and what an exit number says, is the crate table's. Assumes nothing.
 use mathlib.Core.Bool.{Bool, true, false, cond, not, _&&_, _||_}
 use mathlib.Core.List.{List}
@@ -6,7 +6,7 @@ use Prim.Native.Nat.{ℕ, zero, suc, _<_, _≤_}
 use lib.Dec.{eqb, leb, ltb}
 use lib.ListN.{length, getD}
 use Rattle.flow.specs.declared.PointerState.{PointerState}
-use Rattle.flow.specs.Pointer.{numberOf, ofNumber, attemptOf}
+use Rattle.flow.specs.Pointer.{stateNumber, ofNumber, attemptOf}
 use Rattle.machine.specs.declared.Op.{Op}
 use Rattle.machine.specs.Machine.{numbered}
 use Rattle.table.specs.Layout.{rowCell, sizeField, markField, exitCell, rowsRoom, exitsRoom}
@@ -28,7 +28,7 @@ markOf rows region = getD rows (rowCell region markField) 0
 
 -- the exit of a region in the state tried k-th
 abbrev pub tried : List ℕ → ℕ → PointerState → ℕ → ℕ
-tried exits region p k = getD exits (exitCell region (numberOf (attemptOf p k))) 0
+tried exits region p k = getD exits (exitCell region (stateNumber (attemptOf p k))) 0
 
 -- the first open one of j attempts from the k-th on, or 0
 unfoldable pub openFrom : List ℕ → ℕ → PointerState → ℕ → ℕ → ℕ

@@ -1,4 +1,4 @@
-// The run over a lent table of regions and exits (document 01, "The run"), and `determine_runs_forever`.
+// The run over a slices table of regions and exits (document 01, "The run"), and `determine_runs_forever`.
 ghost use mathlib.Core.Path.{_≡_};
 ghost use mathlib.Core.List.{List};
 ghost use Prim.Native.Nat.{ℕ, _+_, _^_, _<_, _≤_};
@@ -6,7 +6,7 @@ ghost use lib.ListN.{length, getD};
 ghost use Rattle.flow.specs.Pointer.{Valid};
 ghost use Rattle.table.specs.Layout.{rowsRoom, exitsRoom};
 ghost use Rattle.table.specs.ExitNumber.{targetOf};
-ghost use Rattle.machine.specs.Held.{lent};
+ghost use Rattle.machine.specs.Held.{slices};
 ghost use Rattle.interpreter.specs.Table.{exitOf, any, every, wrongMark, wrongExit, validOf, Good};
 ghost use Rattle.interpreter.specs.Forever.{closed, onward, foreverOf};
 ghost use Rattle.interpreter.specs.Placed.{Placed, Gone, Stepped, Resumed, Started, Resumable};
@@ -32,7 +32,7 @@ const MOST_REGIONS: usize = 65536;
 
 const LARGEST_EXIT: u32 = 9437184;
 
-// Where a run stands, beside the lent slices.
+// Where a run stands, beside the slices slices.
 pub struct State {
     pub region: u32,
     pub steps: u64,
@@ -167,9 +167,9 @@ fn go_through(
     w: u32,
 ) -> Moved
     requires { ⌜ (n ≤ 65536) × (rowsRoom n ≤ length (now rows)) ⌝ }
-    requires { ⌜ Placed n (lent (now stack) (now kinds) (now values)) at ⌝ }
+    requires { ⌜ Placed n (slices (now stack) (now kinds) (now values)) at ⌝ }
     requires { ⌜ (0 < w) × (targetOf w < n) × (at .steps + 1 < 2 ^ 64) ⌝ }
-    ensures { λ r. ⌜ ((exits : List ℕ) → Gone n (now (rows .entry)) exits «abstract_mode» (now (input .entry)) w (lent (now (stack .entry)) (now (kinds .entry)) (now (values .entry))) at (lent (now (stack .exit)) (now (kinds .exit)) (now (values .exit))) r) ⌝ }
+    ensures { λ r. ⌜ ((exits : List ℕ) → Gone n (now (rows .entry)) exits «abstract_mode» (now (input .entry)) w (slices (now (stack .entry)) (now (kinds .entry)) (now (values .entry))) at (slices (now (stack .exit)) (now (kinds .exit)) (now (values .exit))) r) ⌝ }
 {
     let region = at.region as usize;
     let cell = row_cell(region, SIZE);
@@ -210,9 +210,9 @@ fn step(
     at: State,
 ) -> Moved
     requires { ⌜ Good n (now rows) (now exits) ⌝ }
-    requires { ⌜ Placed n (lent (now stack) (now kinds) (now values)) at ⌝ }
+    requires { ⌜ Placed n (slices (now stack) (now kinds) (now values)) at ⌝ }
     requires { ⌜ at .steps + 1 < 2 ^ 64 ⌝ }
-    ensures { λ r. ⌜ Stepped n (now (rows .entry)) (now (exits .entry)) «abstract_mode» (now (input .entry)) (lent (now (stack .entry)) (now (kinds .entry)) (now (values .entry))) at (lent (now (stack .exit)) (now (kinds .exit)) (now (values .exit))) r ⌝ }
+    ensures { λ r. ⌜ Stepped n (now (rows .entry)) (now (exits .entry)) «abstract_mode» (now (input .entry)) (slices (now (stack .entry)) (now (kinds .entry)) (now (values .entry))) at (slices (now (stack .exit)) (now (kinds .exit)) (now (values .exit))) r ⌝ }
 {
     let core = at.core;
     let awaiting = core.awaiting;
@@ -242,8 +242,8 @@ pub fn resume(
     from: State,
 ) -> Ended
     requires { ⌜ Good n (now rows) (now exits) ⌝ }
-    requires { ⌜ Placed n (lent (now stack) (now kinds) (now values)) from ⌝ }
-    ensures { λ r. ⌜ Resumed n (now (rows .entry)) (now (exits .entry)) limit «abstract_mode» (now (input .entry)) (lent (now (stack .entry)) (now (kinds .entry)) (now (values .entry))) from (lent (now (stack .exit)) (now (kinds .exit)) (now (values .exit))) r ⌝ }
+    requires { ⌜ Placed n (slices (now stack) (now kinds) (now values)) from ⌝ }
+    ensures { λ r. ⌜ Resumed n (now (rows .entry)) (now (exits .entry)) limit «abstract_mode» (now (input .entry)) (slices (now (stack .entry)) (now (kinds .entry)) (now (values .entry))) from (slices (now (stack .exit)) (now (kinds .exit)) (now (values .exit))) r ⌝ }
 {
     let mut at = from;
     while at.steps < limit {
@@ -285,7 +285,7 @@ fn run_valid(
     values: &mut [i64],
 ) -> Ended
     requires { ⌜ Good n (now rows) (now exits) ⌝ }
-    ensures { λ r. ⌜ Started n (now (rows .entry)) (now (exits .entry)) limit «abstract_mode» (now (input .entry)) (lent (now (stack .entry)) (now (kinds .entry)) (now (values .entry))) (lent (now (stack .exit)) (now (kinds .exit)) (now (values .exit))) r ⌝ }
+    ensures { λ r. ⌜ Started n (now (rows .entry)) (now (exits .entry)) limit «abstract_mode» (now (input .entry)) (slices (now (stack .entry)) (now (kinds .entry)) (now (values .entry))) (slices (now (stack .exit)) (now (kinds .exit)) (now (values .exit))) r ⌝ }
 {
     let cells = stack.len();
     fill_i64(stack, 0, cells, 0);
@@ -330,8 +330,8 @@ pub fn run(
     kinds: &mut [u8],
     values: &mut [i64],
 ) -> Ran
-    ensures { λ r. ⌜ outcome r (now (stack .exit)) (now (kinds .exit)) (now (values .exit)) ≡ outcomeOf n (now (rows .entry)) (now (exits .entry)) limit «abstract_mode» (now (input .entry)) (lent (now (stack .entry)) (now (kinds .entry)) (now (values .entry))) ⌝ }
-    ensures { λ r. ⌜ Resumable n (now (rows .entry)) (now (exits .entry)) r (lent (now (stack .exit)) (now (kinds .exit)) (now (values .exit))) ⌝ }
+    ensures { λ r. ⌜ outcome r (now (stack .exit)) (now (kinds .exit)) (now (values .exit)) ≡ outcomeOf n (now (rows .entry)) (now (exits .entry)) limit «abstract_mode» (now (input .entry)) (slices (now (stack .entry)) (now (kinds .entry)) (now (values .entry))) ⌝ }
+    ensures { λ r. ⌜ Resumable n (now (rows .entry)) (now (exits .entry)) r (slices (now (stack .exit)) (now (kinds .exit)) (now (values .exit))) ⌝ }
 {
     let ok = valid(n, rows, exits);
     if !ok {

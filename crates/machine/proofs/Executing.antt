@@ -26,7 +26,7 @@ use Rattle.machine.specs.declared.output.Wrote.{Wrote}
 use Rattle.machine.specs.declared.output.Wrote.the-variants as Write
 use Rattle.machine.specs.Output.{Emit, outsOf, ofTop, Puts}
 use Rattle.machine.specs.Machine.{Store, Effect, does, keeps, withStack, withPointers, withOuts, withUsed, onStack, byTop, turn, write, take, read, fitting}
-use Rattle.machine.specs.Held.{lent, storeOf, Stands, outOf, Leaves, Execs, StackExecs, atDepth, atOutputs, atUsed, atPointers, atWait, grownOf, wroteOf}
+use Rattle.machine.specs.Held.{slices, storeOf, Stands, outOf, After, Execs, StackExecs, atDepth, atOutputs, atUsed, atPointers, atWait, grownOf, wroteOf}
 use Rattle.machine.proofs.Emitting.{outs-length}
 
 -- a store that fits is kept
@@ -37,77 +37,77 @@ fits a b m p q = rw (le-ltb a (length (m .stack)) p, le-ltb b (length (m .outs))
 module _ (stack : List ℤ) (kinds : List ℕ) (values : List ℤ) (at : Core) where
   -- a step that is kept
   pub kept : (e : Store → Effect) (stack′ : List ℤ) (kinds′ : List ℕ) (values′ : List ℤ) (at′ : Core)
-      → Stands (lent stack′ kinds′ values′) at′ → length stack′ ≡ length stack → length kinds′ ≡ length kinds
+      → Stands (slices stack′ kinds′ values′) at′ → length stack′ ≡ length stack → length kinds′ ≡ length kinds
       → length values′ ≡ length values
-      → e (storeOf (lent stack kinds values) at) ≡ does (storeOf (lent stack′ kinds′ values′) at′)
-      → Execs e (lent stack kinds values) at (lent stack′ kinds′ values′) (Kept at′)
-  unfolding outOf Leaves
+      → e (storeOf (slices stack kinds values) at) ≡ does (storeOf (slices stack′ kinds′ values′) at′)
+      → Execs e (slices stack kinds values) at (slices stack′ kinds′ values′) (Kept at′)
+  unfolding outOf After
   kept e stack′ kinds′ values′ at′ s p q r h = record {
     is =
         sym
         (ap (fitting (length stack) (min (length kinds) (length values))) h
-        ∙ fits (length stack) (min (length kinds) (length values)) (storeOf (lent stack′ kinds′ values′) at′)
+        ∙ fits (length stack) (min (length kinds) (length values)) (storeOf (slices stack′ kinds′ values′) at′)
         (omega (arith, stackOf-length stack′ (at′ .depth), s .lies .room))
         (omega (arith, outs-length kinds′ values′ (at′ .outputs), s .holds .kinds-room, s .holds .values-room)));
     leaves = s;
   }
 
-  module _ (s : Stands (lent stack kinds values) at) where
+  module _ (s : Stands (slices stack kinds values) at) where
     pub unmoved : (e : Store → Effect)
-        → e (storeOf (lent stack kinds values) at) ≡ does (storeOf (lent stack kinds values) at)
-        → Execs e (lent stack kinds values) at (lent stack kinds values) (Kept at)
+        → e (storeOf (slices stack kinds values) at) ≡ does (storeOf (slices stack kinds values) at)
+        → Execs e (slices stack kinds values) at (slices stack kinds values) (Kept at)
     unmoved e h = kept e stack kinds values at s refl refl refl h
 
     pub stack-kept : (f : List ℤ → List ℤ) (stack′ : List ℤ) (d′ : ℕ) → Does f stack (at .depth) stack′ d′
         → length stack′ ≡ length stack
-        → Execs (onStack f) (lent stack kinds values) at (lent stack′ kinds values) (Kept (atDepth d′ at))
+        → Execs (onStack f) (slices stack kinds values) at (slices stack′ kinds values) (Kept (atDepth d′ at))
     stack-kept f stack′ d′ q n =
         kept (onStack f) stack′ kinds values (atDepth d′ at)
         (record { lies = q .lies; holds = s .holds; valid = s .valid }) n refl refl
-        (ap (λ (t : List ℤ). does (withStack t (storeOf (lent stack kinds values) at))) (sym (q .is)))
+        (ap (λ (t : List ℤ). does (withStack t (storeOf (slices stack kinds values) at))) (sym (q .is)))
 
     pub grown : (f : List ℤ → List ℤ) (stack′ : List ℤ) (g : Grown) → Grows f stack (at .depth) stack′ g
         → length stack′ ≡ length stack
-        → Execs (onStack f) (lent stack kinds values) at (lent stack′ kinds values) (grownOf at g)
-    unfolding Grows grownOf outOf fitting Leaves
+        → Execs (onStack f) (slices stack kinds values) at (slices stack′ kinds values) (grownOf at g)
+    unfolding Grows grownOf outOf fitting After
     grown f stack′ (Grow.To d′) q n = stack-kept f stack′ d′ q n
     grown f stack′ Grow.Full q n = record {
       is = rw (lt-ltb (length stack) (length (f (stackOf stack (at .depth)))) (q .full)) refl;
-      leaves = ap (λ (t : List ℤ). lent t kinds values) (q .same);
+      leaves = ap (λ (t : List ℤ). slices t kinds values) (q .same);
     }
 
     -- the pointers turn by the top, which goes
     pub turned : (f : PointerState → ℤ → PointerState) (stack′ : List ℤ) (d′ : ℕ) (p′ : PointerState)
         → Does Instr.pop stack (at .depth) stack′ d′ → length stack′ ≡ length stack
         → p′ ≡ byTop f (stackOf stack (at .depth)) (at .pointers) → Valid p′
-        → Execs (turn f) (lent stack kinds values) at (lent stack′ kinds values) (Kept (atPointers p′ (atDepth d′ at)))
+        → Execs (turn f) (slices stack kinds values) at (slices stack′ kinds values) (Kept (atPointers p′ (atDepth d′ at)))
     unfolding turn
     turned f stack′ d′ p′ q n e v =
         kept (turn f) stack′ kinds values (atPointers p′ (atDepth d′ at))
         (record { lies = q .lies; holds = s .holds; valid = v }) n refl refl
-        (ap₂ (λ (t : List ℤ) (p : PointerState). does (withStack t (withPointers p (storeOf (lent stack kinds values) at))))
+        (ap₂ (λ (t : List ℤ) (p : PointerState). does (withStack t (withPointers p (storeOf (slices stack kinds values) at))))
         (sym (q .is)) (sym e))
 
     pub unturned : (f : PointerState → ℤ → PointerState) → at .depth ≡ 0
-        → Execs (turn f) (lent stack kinds values) at (lent stack kinds values) (Kept at)
+        → Execs (turn f) (slices stack kinds values) at (slices stack kinds values) (Kept at)
     unfolding byTop Instr.pop stackOf turn
     unturned f h = unmoved (turn f) (go (stackOf stack (at .depth)) (ap (stackOf stack) h))
       where
         go : (t : List ℤ) → t ≡ []
-            → does (withStack (Instr.pop t) (withPointers (byTop f t (at .pointers)) (storeOf (lent stack kinds values) at)))
-            ≡ does (withStack t (storeOf (lent stack kinds values) at))
+            → does (withStack (Instr.pop t) (withPointers (byTop f t (at .pointers)) (storeOf (slices stack kinds values) at)))
+            ≡ does (withStack t (storeOf (slices stack kinds values) at))
         go t e = rw e refl
 
     -- what the top gives is emitted
     pub wrote : (f : ℤ → List Emit) (stack′ : List ℤ) (kinds′ : List ℕ) (values′ : List ℤ) (w : Wrote)
         → Puts f stack (at .depth) kinds values (at .outputs) stack′ kinds′ values′ w → length stack′ ≡ length stack
         → length kinds′ ≡ length kinds → length values′ ≡ length values
-        → Execs (write f) (lent stack kinds values) at (lent stack′ kinds′ values′) (wroteOf at w)
-    unfolding Puts write wroteOf fitting outOf Leaves
+        → Execs (write f) (slices stack kinds values) at (slices stack′ kinds′ values′) (wroteOf at w)
+    unfolding Puts write wroteOf fitting outOf After
     wrote f stack′ kinds′ values′ (Write.Kept d′ n′) q i j k =
         kept (write f) stack′ kinds′ values′ (atOutputs n′ (atDepth d′ at))
         (record { lies = q .lies; holds = q .writes .holds; valid = s .valid }) i j k
-        (ap₂ (λ (t : List ℤ) (o : List Emit). does (withStack t (withOuts o (storeOf (lent stack kinds values) at))))
+        (ap₂ (λ (t : List ℤ) (o : List Emit). does (withStack t (withOuts o (storeOf (slices stack kinds values) at))))
         (sym (q .pops)) (sym (q .writes .is)))
     wrote f stack′ kinds′ values′ Write.NoRoom q i j k = record {
       is =
@@ -124,29 +124,29 @@ module _ (stack : List ℤ) (kinds : List ℕ) (values : List ℤ) (at : Core) w
     -- a line is gone
     pub pushed : (v : ℤ) (n : ℕ) (stack′ : List ℤ) (g : Grown) → Grows (Instr.push v) stack (at .depth) stack′ g
         → length stack′ ≡ length stack
-        → Execs (take (Line.Push v n)) (lent stack kinds values) at (lent stack′ kinds values) (grownOf (atUsed n at) g)
-    unfolding Grows take grownOf outOf fitting Leaves
+        → Execs (take (Line.Push v n)) (slices stack kinds values) at (slices stack′ kinds values) (grownOf (atUsed n at) g)
+    unfolding Grows take grownOf outOf fitting After
     pushed v n stack′ (Grow.To d′) q l =
         kept (take (Line.Push v n)) stack′ kinds values (atDepth d′ (atUsed n at))
         (record { lies = q .lies; holds = s .holds; valid = s .valid }) l refl refl
-        (ap (λ (t : List ℤ). does (withUsed n (withStack t (storeOf (lent stack kinds values) at)))) (sym (q .is)))
+        (ap (λ (t : List ℤ). does (withUsed n (withStack t (storeOf (slices stack kinds values) at)))) (sym (q .is)))
     pushed v n stack′ Grow.Full q l = record {
       is = rw (lt-ltb (length stack) (length (Instr.push v (stackOf stack (at .depth)))) (q .full)) refl;
-      leaves = ap (λ (t : List ℤ). lent t kinds values) (q .same);
+      leaves = ap (λ (t : List ℤ). slices t kinds values) (q .same);
     }
 
-    pub skipped : (n : ℕ) → Execs (take (Line.Skip n)) (lent stack kinds values) at (lent stack kinds values) (Kept (atUsed n at))
+    pub skipped : (n : ℕ) → Execs (take (Line.Skip n)) (slices stack kinds values) at (slices stack kinds values) (Kept (atUsed n at))
     unfolding take
     skipped n =
         kept (take (Line.Skip n)) stack kinds values (atUsed n at) (record { lies = s .lies; holds = s .holds; valid = s .valid })
         refl refl refl refl
 
-    pub bad : Execs (take Line.BadInput) (lent stack kinds values) at (lent stack kinds values) (Stops BadInput)
-    unfolding fitting outOf take Leaves
+    pub bad : Execs (take Line.BadInput) (slices stack kinds values) at (slices stack kinds values) (Stops BadInput)
+    unfolding fitting outOf take After
     bad = record { is = refl; leaves = refl }
 
     pub waits : (f : List ℕ → Number) (input : List ℕ)
-        → Execs (read true f input) (lent stack kinds values) at (lent stack kinds values) (Kept (atWait at))
+        → Execs (read true f input) (slices stack kinds values) at (slices stack kinds values) (Kept (atWait at))
     unfolding read
     waits f input =
         kept (read true f input) stack kinds values (atWait at) (record { lies = s .lies; holds = s .holds; valid = s .valid })
@@ -162,7 +162,7 @@ reads f input t stack stack′ at r e x kinds values h =
     record {
       is =
           y .is
-          ∙ ap (λ (u : Taken). fitting (length stack) (min (length kinds) (length values)) (take u (storeOf (lent stack kinds values) at)))
+          ∙ ap (λ (u : Taken). fitting (length stack) (min (length kinds) (length values)) (take u (storeOf (slices stack kinds values) at)))
           e;
       leaves = y .leaves;
     }

@@ -2,7 +2,7 @@
 --     exec                     execs-only
 --     int_out, char_out        puts-only
 --     numbered, at_pointers    `equation-only` of base's proofs/Only.antt
--- A call leaves the length of a lent slice as it is. Assumes nothing.
+-- A call leaves the length of a slices slice as it is. Assumes nothing.
 use mathlib.Core.Path.{_≡_, _∙_, sym, ap, ap₂, refl}
 use mathlib.Core.List.{List, [], _∷_, _++_}
 use Prim.Native.Nat.{ℕ}
@@ -20,18 +20,18 @@ use Rattle.machine.specs.declared.output.Wrote.{Wrote}
 use Rattle.machine.specs.declared.output.Wrote.the-variants as Write
 use Rattle.machine.specs.Output.{Emit, outsOf, ofTop, Keeps, Refuses, Puts}
 use Rattle.machine.specs.Machine.{Store, Effect, keeps, statusOf}
-use Rattle.machine.specs.Held.{Lent, lent, storeOf, Stands, outOf, Leaves, Execs}
+use Rattle.machine.specs.Held.{Slices, slices, storeOf, Stands, outOf, After, Execs}
 use Rattle.machine.proofs.Emitting.{outs-length}
 use Rattle.machine.proofs.Unique.{unique-outs}
 
 -- the slices after a call are as long as those before it
-pub record AsLong (l′ l : Lent) : Type 0 where
+pub record AsLong (l′ l : Slices) : Type 0 where
   pub stack : length (l′ .stack) ≡ length (l .stack)
   pub kinds : length (l′ .kinds) ≡ length (l .kinds)
   pub values : length (l′ .values) ≡ length (l .values)
 
 -- a store settles the numbers and the cells that hold it
-same-held : (l l′ : Lent) (at at′ : Core) → AsLong l l′ → Stands l at → Stands l′ at′ → storeOf l at ≡ storeOf l′ at′
+same-held : (l l′ : Slices) (at at′ : Core) → AsLong l l′ → Stands l at → Stands l′ at′ → storeOf l at ≡ storeOf l′ at′
     → (at ≡ at′) × (l ≡ l′)
 same-held l l′ at at′ n s s′ e =
     let u = unique (l .stack) (l′ .stack) (at .depth) (at′ .depth) (s .lies) (s′ .lies) (n .stack) (ap (λ (m : Store). m .stack) e) in
@@ -45,15 +45,15 @@ same-held l l′ at at′ n s s′ e =
         used = e i .used;
         awaiting = e i .awaiting;
       },
-      λ i. lent (u .1 i) (o .1 i) (o .2 i),
+      λ i. slices (u .1 i) (o .1 i) (o .2 i),
     )
 
-module _ (e : Store → Effect) (l : Lent) (at : Core) (l′ l″ : Lent) (n : AsLong l′ l) (m : AsLong l″ l) where
+module _ (e : Store → Effect) (l : Slices) (at : Core) (l′ l″ : Slices) (n : AsLong l′ l) (m : AsLong l″ l) where
   as-long : AsLong l′ l″
   as-long = record { stack = n .stack ∙ sym (m .stack); kinds = n .kinds ∙ sym (m .kinds); values = n .values ∙ sym (m .values) }
 
-  settled : (r r′ : Done) → outOf l′ r ≡ outOf l″ r′ → Leaves l l′ r → Leaves l l″ r′ → (r ≡ r′) × (l′ ≡ l″)
-  unfolding outOf Leaves
+  settled : (r r′ : Done) → outOf l′ r ≡ outOf l″ r′ → After l l′ r → After l l″ r′ → (r ≡ r′) × (l′ ≡ l″)
+  unfolding outOf After
   settled (Kept a) (Kept b) q s t = let h = same-held l′ l″ a b as-long s t (kept q) in (ap Kept (h .0), h .1)
     where
       kept : {x y : Store} → keeps x ≡ keeps y → x ≡ y
@@ -65,11 +65,11 @@ module _ (e : Store → Effect) (l : Lent) (at : Core) (l′ l″ : Lent) (n : A
   pub execs-only : (r r′ : Done) → Execs e l at l′ r → Execs e l at l″ r′ → (r ≡ r′) × (l′ ≡ l″)
   execs-only r r′ p q = settled r r′ (p .is ∙ sym (q .is)) (p .leaves) (q .leaves)
 
-module _ (f : ℤ → List Emit) (l : Lent) (d n : ℕ) (l′ l″ : Lent) (long : AsLong l′ l) (long′ : AsLong l″ l) where
+module _ (f : ℤ → List Emit) (l : Slices) (d n : ℕ) (l′ l″ : Slices) (long : AsLong l′ l) (long′ : AsLong l″ l) where
   -- outputs that stand in the slices have room in them
-  fits : (k : Lent) (d′ n′ : ℕ) → AsLong k l
+  fits : (k : Slices) (d′ n′ : ℕ) → AsLong k l
       → Keeps f (l .stack) d (l .kinds) (l .values) n (k .stack) (k .kinds) (k .values) d′ n′
-      → (k′ : Lent) → Refuses f (l .stack) d (l .kinds) (l .values) n (k′ .stack) (k′ .kinds) (k′ .values) → ⊥
+      → (k′ : Slices) → Refuses f (l .stack) d (l .kinds) (l .values) n (k′ .stack) (k′ .kinds) (k′ .values) → ⊥
   fits k d′ n′ a p k′ q =
       let w = p .writes in
       let e : length (outsOf (l .kinds) (l .values) n ++ ofTop f (stackOf (l .stack) d)) ≡ n′ = sym (ap length (w .is)) ∙ outs-length (k .kinds) (k .values) n′ in
@@ -83,12 +83,12 @@ module _ (f : ℤ → List Emit) (l : Lent) (d n : ℕ) (l′ l″ : Lent) (long
       let o =
       unique-outs (l′ .kinds) (l″ .kinds) (l′ .values) (l″ .values) b b′ (p .writes .holds) (q .writes .holds) (p .writes .is ∙ sym (q .writes .is))
       (long .kinds ∙ sym (long′ .kinds)) (long .values ∙ sym (long′ .values)) in
-      (ap₂ Write.Kept (u .0) (o .0), λ i. lent (u .1 i) (o .1 i) (o .2 i))
+      (ap₂ Write.Kept (u .0) (o .0), λ i. slices (u .1 i) (o .1 i) (o .2 i))
   puts-only (Write.Kept a b) Write.NoRoom p q = absurd (fits l′ a b long p l″ q)
   puts-only Write.NoRoom (Write.Kept a b) p q = absurd (fits l″ a b long′ q l′ p)
   puts-only Write.NoRoom Write.NoRoom p q = (
     refl,
-    λ i. lent ((p .same-stack ∙ sym (q .same-stack)) i) ((p .same-kinds ∙ sym (q .same-kinds)) i) ((p .same-values ∙ sym (q .same-values)) i),
+    λ i. slices ((p .same-stack ∙ sym (q .same-stack)) i) ((p .same-kinds ∙ sym (q .same-kinds)) i) ((p .same-values ∙ sym (q .same-values)) i),
   )
 
 -- a status names one stop

@@ -1,4 +1,4 @@
--- What the code holds of a store: numbers in a `Core`, the stack and the outputs in three lent slices. Assumes nothing.
+-- What the code holds of a store: numbers in a `Core`, the stack and the outputs in three slices slices. Assumes nothing.
 use mathlib.Core.Path.{_≡_}
 use mathlib.Core.Bool.{true}
 use mathlib.Core.List.{List}
@@ -19,24 +19,24 @@ use Rattle.machine.specs.declared.output.Wrote.the-variants as Write
 use Rattle.machine.specs.Output.{outsOf, Holds}
 use Rattle.machine.specs.Machine.{Store, Effect, Out, keeps, stops, fitting}
 
--- the three lent slices
-pub record Lent : Type 0 where
+-- the three slices slices
+pub record Slices : Type 0 where
   pub stack : List ℤ
   pub kinds : List ℕ
   pub values : List ℤ
 
-abbrev pub lent : List ℤ → List ℕ → List ℤ → Lent
-lent stack kinds values = record { stack = stack; kinds = kinds; values = values }
+abbrev pub slices : List ℤ → List ℕ → List ℤ → Slices
+slices stack kinds values = record { stack = stack; kinds = kinds; values = values }
 
-abbrev pub stackRoom : Lent → ℕ
+abbrev pub stackRoom : Slices → ℕ
 stackRoom l = length (l .stack)
 
 -- "room is the shorter of the two slices"
-abbrev pub outRoom : Lent → ℕ
+abbrev pub outRoom : Slices → ℕ
 outRoom l = min (length (l .kinds)) (length (l .values))
 
 -- the store that is held
-abbrev pub storeOf : Lent → Core → Store
+abbrev pub storeOf : Slices → Core → Store
 storeOf l at = record {
   pointers = at .pointers;
   stack = stackOf (l .stack) (at .depth);
@@ -46,31 +46,31 @@ storeOf l at = record {
 }
 
 -- "All cells past the depth or the output count, in each slice to its end, hold 0", and the pointers are a state
-pub record Stands (l : Lent) (at : Core) : Type 0 where
+pub record Stands (l : Slices) (at : Core) : Type 0 where
   pub lies : Lies (l .stack) (at .depth)
   pub holds : Holds (l .kinds) (l .values) (at .outputs)
   pub valid : Valid (at .pointers)
 
 -- what an answer with the slices after it says
-unfoldable pub outOf : Lent → Done → Out
+unfoldable pub outOf : Slices → Done → Out
 outOf l (Kept at) = keeps (storeOf l at)
 outOf l (Stops s) = stops s
 
 -- "A step that can't be kept isn't taken, and everything stands as before it"
-unfoldable pub Leaves : Lent → Lent → Done → Type 0
-Leaves l l′ (Kept at) = Stands l′ at
-Leaves l l′ (Stops s) = l′ ≡ l
+unfoldable pub After : Slices → Slices → Done → Type 0
+After l l′ (Kept at) = Stands l′ at
+After l l′ (Stops s) = l′ ≡ l
 
 -- the slices and the answer after e is done to what is held
-pub record Execs (e : Store → Effect) (l : Lent) (at : Core) (l′ : Lent) (r : Done) : Type 0 where
+pub record Execs (e : Store → Effect) (l : Slices) (at : Core) (l′ : Slices) (r : Done) : Type 0 where
   pub is : outOf l′ r ≡ fitting (stackRoom l) (outRoom l) (e (storeOf l at))
-  pub leaves : Leaves l l′ r
+  pub leaves : After l l′ r
 
 -- the same of a function that sees the stack alone, whatever the outputs are
 abbrev pub StackExecs : (Store → Effect) → List ℤ → Core → List ℤ → Done → Type 0
 StackExecs e stack at stack′ r =
     (kinds : List ℕ) (values : List ℤ) → Holds kinds values (at .outputs)
-    → Execs e (lent stack kinds values) at (lent stack′ kinds values) r
+    → Execs e (slices stack kinds values) at (slices stack′ kinds values) r
 
 abbrev pub atDepth : ℕ → Core → Core
 atDepth d at = record { pointers = at .pointers; depth = d; outputs = at .outputs; used = at .used; awaiting = at .awaiting }

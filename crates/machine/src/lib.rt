@@ -1,4 +1,4 @@
-// One instruction over the lent stack and outputs.
+// One instruction over the slices stack and outputs.
 pub mod output;
 
 use crate::output::Wrote;
@@ -11,7 +11,7 @@ ghost use Rattle.flow.specs.Pointer.{Valid, rotated, switched};
 ghost use Rattle.text.specs.Input.{charOf, intOf};
 ghost use Rattle.stack.specs.Stack.{Lies};
 ghost use Rattle.machine.specs.Machine.{exec, take, turn, read, numbered, statusOf};
-ghost use Rattle.machine.specs.Held.{lent, Stands, Execs, StackExecs, atDepth, atOutputs, atUsed, atPointers, atWait, grownOf, wroteOf};
+ghost use Rattle.machine.specs.Held.{slices, Stands, Execs, StackExecs, atDepth, atOutputs, atUsed, atPointers, atWait, grownOf, wroteOf};
 
 // The instructions; Nothing is what a slide's or a black region's exit carries.
 pub enum Op {
@@ -40,7 +40,7 @@ pub enum Stop {
     BadInput,
 }
 
-// What an instruction works on, beside the lent slices; awaiting: an input instruction was met in abstract mode.
+// What an instruction works on, beside the slices slices; awaiting: an input instruction was met in abstract mode.
 pub struct Core {
     pub pointers: PointerState,
     pub depth: usize,
@@ -239,8 +239,8 @@ pub fn exec(
     values: &mut [i64],
     at: Core,
 ) -> Done
-    requires { ⌜ Stands (lent (now stack) (now kinds) (now values)) at ⌝ }
-    ensures { λ r. ⌜ Execs (exec «abstract_mode» (now (input .entry)) size op) (lent (now (stack .entry)) (now (kinds .entry)) (now (values .entry))) at (lent (now (stack .exit)) (now (kinds .exit)) (now (values .exit))) r ⌝ }
+    requires { ⌜ Stands (slices (now stack) (now kinds) (now values)) at ⌝ }
+    ensures { λ r. ⌜ Execs (exec «abstract_mode» (now (input .entry)) size op) (slices (now (stack .entry)) (now (kinds .entry)) (now (values .entry))) at (slices (now (stack .exit)) (now (kinds .exit)) (now (values .exit))) r ⌝ }
 {
     let d = at.depth;
     let n = at.outputs;

@@ -5,7 +5,7 @@ use Prim.Native.Nat.{ℕ, _^_}
 use lib.IntN.{ℤ, pos, negsuc, natAbs, _+ℤ_}
 use Rattle.word.specs.Word.{wrap, quotient, remainder}
 use Rattle.colour.specs.Decode.{decodeOf}
-use Rattle.flow.specs.Pointer.{numberOf, ofNumber, attemptOf}
+use Rattle.flow.specs.Pointer.{stateNumber, ofNumber, attemptOf}
 use Rattle.stack.specs.Instr.{roll}
 use Rattle.machine.specs.Output.{Emit, charOut}
 
@@ -30,7 +30,7 @@ emitted (e ∷ es) = pos (e .kind) ∷ e .value ∷ emitted es
 
 -- what the definitions say
 abbrev pub answer : Question → List ℤ
-answer (orderFrom s) = map (λ k. pos (numberOf (attemptOf (ofNumber s) k))) (0 ∷ 1 ∷ 2 ∷ 3 ∷ 4 ∷ 5 ∷ 6 ∷ 7 ∷ [])
+answer (orderFrom s) = map (λ k. pos (stateNumber (attemptOf (ofNumber s) k))) (0 ∷ 1 ∷ 2 ∷ 3 ∷ 4 ∷ 5 ∷ 6 ∷ 7 ∷ [])
 answer (decodes from to) = pos (decodeOf from to) ∷ []
 answer (modOf b a) = remainder b a
 answer (divOf b a) = quotient b a

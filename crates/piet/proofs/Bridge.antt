@@ -9,7 +9,7 @@ use borrow.Author.Tests.{eqb-true, eqb-false, eq-eqb, ne-eqb}
 use lib.Dec.{eqb}
 use lib.ListN.{length, getD}
 use Rattle.flow.specs.declared.PointerState.{PointerState}
-use Rattle.flow.specs.Pointer.{Valid, numberOf, ofNumber, attemptOf}
+use Rattle.flow.specs.Pointer.{Valid, stateNumber, ofNumber, attemptOf}
 use Rattle.flow.proofs.Order.{of-number, number-small, valid-number, valid-attempt}
 use Rattle.piet.specs.Moves.{Opens, beside, across, Shut, FirstOpen, NoneOpen}
 use Rattle.picture.specs.Picture.{Picture, Inside, codels, codelColour, indexOf, Sound}
@@ -24,7 +24,7 @@ use Rattle.cfg.specs.Table.{Exit, node, no-node}
 use Rattle.region.specs.Region.{IsMap}
 use Rattle.region.specs.Tally.{tally}
 use Rattle.cfg.proofs.NodeLaws.{same-way}
-use Rattle.cfg.specs.Search.{Placed}
+use Rattle.cfg.specs.Search.{InGrid}
 use Rattle.cfg.proofs.Trying.{placed}
 use Rattle.cfg.proofs.Leads.{Leads, exit-cases}
 use Rattle.region.specs.Grid.{gridOf}
@@ -57,14 +57,14 @@ module _ {p : Picture} {map rows exits : List ℕ} {n : ℕ} (S : Sound p) (B : 
   one-way : {r s : ℕ} {w w′ : Way} → s < 8 → Tried p map r s w → Tried p map r s w′ → w ≡ w′
   one-way h a b = same-way (cols-pos S) (B .map-long) h a b
 
-  shut-closed : {r : ℕ} {q : PointerState} → Valid q → Tried p map r (numberOf q) Closed → Shut p map r q
+  shut-closed : {r : ℕ} {q : PointerState} → Valid q → Tried p map r (stateNumber q) Closed → Shut p map r q
   shut-closed {r} {q} v t = record { never = λ target u i o. go o }
     where
       go : {target : ℕ} {u : PointerState} {i : ℕ} → Opens p map r q target u i → ⊥
       go (beside s) = let e = one-way (number-small q v) t s in clash (cc)
       go (across s) = let e = one-way (number-small q v) t s in clash (cc)
 
-  shut-astray : {r : ℕ} {q : PointerState} {a b : ℕ} → Valid q → Tried p map r (numberOf q) (Astray a b) → Shut p map r q
+  shut-astray : {r : ℕ} {q : PointerState} {a b : ℕ} → Valid q → Tried p map r (stateNumber q) (Astray a b) → Shut p map r q
   shut-astray {r} {q} v t = record { never = λ target u i o. go o }
     where
       go : {target : ℕ} {u : PointerState} {i : ℕ} → Opens p map r q target u i → ⊥
@@ -78,19 +78,19 @@ module _ {p : Picture} {map rows exits : List ℕ} {n : ℕ} (S : Sound p) (B : 
   numbered-at : (a b : ℕ) → Inside p a b → regionAt p map a b < n
   numbered-at a b i = B .regions .below (indexOf p a b) (index-in p a b i)
 
-  way-placed : {r : ℕ} {q : PointerState} {w : Way} → Valid q → Tried p map r (numberOf q) w → Placed p w
+  way-placed : {r : ℕ} {q : PointerState} {w : Way} → Valid q → Tried p map r (stateNumber q) w → InGrid p w
   way-placed {q = q} v t =
-      placed (inside-of S (t .codel) (omega (arith, t .leaves .codel, B .map-long))) (valid-number (numberOf q) (number-small q v)) (t .way)
+      placed (inside-of S (t .codel) (omega (arith, t .leaves .codel, B .map-long))) (valid-number (stateNumber q) (number-small q v)) (t .way)
 
   -- an exit number made of a way that is open
-  opened : {r : ℕ} {q u : PointerState} {x target i : ℕ} → x ≡ exitNumber target (numberOf u) i → target < n → Valid u → Node p map target
+  opened : {r : ℕ} {q u : PointerState} {x target i : ℕ} → x ≡ exitNumber target (stateNumber u) i → target < n → Valid u → Node p map target
       → Opens p map r q target u i → Leaves-by r q x
   opened {r} {q} {u} {x} {target} {i} e low v N o =
       let h : target < 65536 = omega (arith, few) in
       let k = number-small u v in
-      let t : targetOf x ≡ target = ap targetOf e ∙ target-back target (numberOf u) i h k in
-      let s : pointersOf x ≡ u = ap pointersOf e ∙ ap ofNumber (state-back target (numberOf u) i h k) ∙ of-number u v in
-      let j : instructionOf x ≡ i = ap instructionOf e ∙ instruction-back target (numberOf u) i h k in
+      let t : targetOf x ≡ target = ap targetOf e ∙ target-back target (stateNumber u) i h k in
+      let s : pointersOf x ≡ u = ap pointersOf e ∙ ap ofNumber (state-back target (stateNumber u) i h k) ∙ of-number u v in
+      let j : instructionOf x ≡ i = ap instructionOf e ∙ instruction-back target (stateNumber u) i h k in
       record {
         opens = rw (t, s, j) o;
         node = rw t N;
@@ -113,30 +113,30 @@ module _ {p : Picture} {map rows exits : List ℕ} {n : ℕ} (S : Sound p) (B : 
       subst (Node p map) e (l .node)
 
   -- what an exit of a node says
-  by-way : {r : ℕ} {q : PointerState} (w : Way) → Valid q → (t : Tried p map r (numberOf q) w)
-      → ((wayNumber p map (codelColour p (t .codel)) (numberOf q) w ≡ 0) ⊎ Leads p map n (wayNumber p map (codelColour p (t .codel)) (numberOf q) w))
-      → ((wayNumber p map (codelColour p (t .codel)) (numberOf q) w ≡ 0) × Shut p map r q)
-      ⊎ Leaves-by r q (wayNumber p map (codelColour p (t .codel)) (numberOf q) w)
+  by-way : {r : ℕ} {q : PointerState} (w : Way) → Valid q → (t : Tried p map r (stateNumber q) w)
+      → ((wayNumber p map (codelColour p (t .codel)) (stateNumber q) w ≡ 0) ⊎ Leads p map n (wayNumber p map (codelColour p (t .codel)) (stateNumber q) w))
+      → ((wayNumber p map (codelColour p (t .codel)) (stateNumber q) w ≡ 0) × Shut p map r q)
+      ⊎ Leaves-by r q (wayNumber p map (codelColour p (t .codel)) (stateNumber q) w)
   unfolding wayNumber
   by-way Closed v t l = inl (refl, shut-closed v t)
   by-way (Astray a b) v t l = inl (refl, shut-astray v t)
   by-way {r} {q} (Step a b) v t l =
       let low = numbered-at a b (way-placed v t) in
-      inr (opened refl low v (leads-node (regionAt p map a b) (numberOf q) _ low (number-small q v) l) (beside t))
+      inr (opened refl low v (leads-node (regionAt p map a b) (stateNumber q) _ low (number-small q v) l) (beside t))
   by-way {r} {q} (Glide a b c d u) v t l =
       let P = way-placed v t in
       let low = numbered-at c d (P .1) in
-      inr (opened refl low (P .2) (leads-node (regionAt p map c d) (numberOf u) 0 low (number-small u (P .2)) l) (across t))
+      inr (opened refl low (P .2) (leads-node (regionAt p map c d) (stateNumber u) 0 low (number-small u (P .2)) l) (across t))
 
-  says : {r : ℕ} {q : PointerState} {x : ℕ} → Valid q → Node p map r → Exit p map r (numberOf q) x → ((x ≡ 0) ⊎ Leads p map n x)
+  says : {r : ℕ} {q : PointerState} {x : ℕ} → Valid q → Node p map r → Exit p map r (stateNumber q) x → ((x ≡ 0) ⊎ Leads p map n x)
       → ((x ≡ 0) × Shut p map r q) ⊎ Leaves-by r q x
   says v N (node {w = w} M t) l = by-way w v t l
   says v N (no-node M) l = absurd (M N)
 
   pub exit-says : (r : ℕ) (q : PointerState) → r < n → Valid q → Node p map r
-      → ((getD exits (exitCell r (numberOf q)) 0 ≡ 0) × Shut p map r q) ⊎ Leaves-by r q (getD exits (exitCell r (numberOf q)) 0)
+      → ((getD exits (exitCell r (stateNumber q)) 0 ≡ 0) × Shut p map r q) ⊎ Leaves-by r q (getD exits (exitCell r (stateNumber q)) 0)
   exit-says r q h v N =
-      says v N (B .exit r (numberOf q) h (number-small q v)) (exit-cases S (B .regions) (B .map-long) (number-small q v) (B .exit r (numberOf q) h (number-small q v)))
+      says v N (B .exit r (stateNumber q) h (number-small q v)) (exit-cases S (B .regions) (B .map-long) (number-small q v) (B .exit r (stateNumber q) h (number-small q v)))
 
   -- the exit taken is that of the first open attempt
   pub data Taken (r : ℕ) (q : PointerState) (x : ℕ) : Type 0 where

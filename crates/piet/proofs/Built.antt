@@ -12,7 +12,7 @@ use lib.ListN.{length, getD, take, length-take}
 use lib.Seq.{getD-take}
 use Rattle.base.specs.Numbers.{numbers}
 use Rattle.base.proofs.Refusals.{passed}
-use Rattle.machine.specs.Held.{Lent, lent, stackRoom, outRoom}
+use Rattle.machine.specs.Held.{Slices, slices, stackRoom, outRoom}
 use Rattle.piet.specs.Follows.{Given, Follows}
 use Rattle.colour.specs.Palette.{white}
 use Rattle.picture.specs.Picture.{Picture, codels, Sound}
@@ -32,7 +32,7 @@ use Rattle.interpreter.specs.declared.Ran.{Ran}
 use Rattle.interpreter.specs.declared.Ran.the-variants.{Finished}
 use Rattle.interpreter.specs.Table.{any, wrongMark, wrongExit, validOf, markOf}
 use Rattle.interpreter.specs.Run.{End, runOf, start}
-use Rattle.interpreter.specs.Outcome.{Outcome, outcome, outcomeOf, endedOf, lentOf, jobOf}
+use Rattle.interpreter.specs.Outcome.{Outcome, outcome, outcomeOf, endedOf, slicesOf, jobOf}
 use Rattle.piet.proofs.Bridge.{Tabled}
 use Rattle.piet.proofs.Following.{follows}
 
@@ -46,7 +46,7 @@ mark-small (is a) = omega arith
 mark-small (none a) = omega arith
 
 -- what the run of a picture is given
-abbrev givenOf : Bool → List ℕ → Lent → Given
+abbrev givenOf : Bool → List ℕ → Slices → Given
 givenOf mode input l = record { mode = mode; input = input; stackRoom = stackRoom l; outRoom = outRoom l }
 
 module _ {p : Picture} {map rows exits work map′ rows′ exits′ work′ : List ℕ} {n : ℕ} (S : Sound p)
@@ -112,10 +112,10 @@ module _ {p : Picture} {map rows exits work map′ rows′ exits′ work′ : Li
       )
 
   -- a run of what was built is finished, and follows the picture
-  pub run-follows : (getD (p .colours) 0 0 ≡ white → ⊥) → (limit : ℕ) (mode : Bool) (input : List ℕ) (l : Lent) {r : Ran} {stack : List ℤ} {kinds : List ℕ} {values : List ℤ}
+  pub run-follows : (getD (p .colours) 0 0 ≡ white → ⊥) → (limit : ℕ) (mode : Bool) (input : List ℕ) (l : Slices) {r : Ran} {stack : List ℤ} {kinds : List ℕ} {values : List ℤ}
       → outcome r stack kinds values ≡ outcomeOf n rows′ exits′ limit mode input l
       → (e : End) × (r ≡ Finished (endedOf e)) × Follows p (take (codels p) map′) (givenOf mode input l) limit e × (e .at .region < n)
-      × (lent stack kinds values ≡ lentOf l (e .at .store))
+      × (slices stack kinds values ≡ slicesOf l (e .at .store))
   run-follows entry limit mode input l {r} e =
       let f = follows S tabled (givenOf mode input l) entry limit in (
         runOf (jobOf rows′ exits′ mode input l) limit start,
@@ -140,10 +140,10 @@ coloured p m r e w v h k =
 -- Demand 3, from the two contracts as they stand: `build` answered n, and `run` was called on what it wrote
 pub picture-follows : {p : Picture} {map rows exits work map′ rows′ exits′ work′ : List ℕ} {n : ℕ}
     → building.Outcome p map rows exits work (Done n) map′ rows′ exits′ work′
-    → (limit : ℕ) (mode : Bool) (input : List ℕ) (l : Lent) {r : Ran} {stack : List ℤ} {kinds : List ℕ} {values : List ℤ}
+    → (limit : ℕ) (mode : Bool) (input : List ℕ) (l : Slices) {r : Ran} {stack : List ℤ} {kinds : List ℕ} {values : List ℤ}
     → outcome r stack kinds values ≡ outcomeOf n rows′ exits′ limit mode input l
     → (e : End) × (r ≡ Finished (endedOf e)) × Follows p (take (codels p) map′) (givenOf mode input l) limit e × (e .at .region < n)
-    × (lent stack kinds values ≡ lentOf l (e .at .store))
+    × (slices stack kinds values ≡ slicesOf l (e .at .store))
 picture-follows (building.refused k v e h) limit mode input l o = absurd (refused-done k _ v h)
   where
     refused-done : (k n : ℕ) (v : List ℕ) → numbers 0 (n ∷ 0 ∷ []) ≡ numbers (suc k) v → ⊥

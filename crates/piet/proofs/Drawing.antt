@@ -11,7 +11,7 @@ use Rattle.base.proofs.Refusals.{refused}
 use Rattle.picture.specs.Picture.{Picture}
 use Rattle.colour.specs.declared.classify.Classified.{Classified}
 use Rattle.colour.specs.Classify as classifying
-use Rattle.colour.specs.Classify.{shades}
+use Rattle.colour.specs.Classify.{coloursUnder}
 use Rattle.cfg.specs.declared.building.Built.{Built}
 use Rattle.cfg.specs.declared.building.Built.the-variants.{Done}
 use Rattle.cfg.specs.Build as building
@@ -20,18 +20,18 @@ use Rattle.interpreter.specs.declared.Ended.{Ended}
 use Rattle.interpreter.specs.declared.Ran.the-variants as Ran
 use Rattle.piet.specs.declared.run_picture.Pictured.{Pictured}
 use Rattle.piet.specs.declared.run_picture.Pictured.the-variants.{Finished, Refused}
-use Rattle.piet.specs.RunPicture.{Asked, Lends, refusalOf, Runs, Outcome, done}
+use Rattle.piet.specs.RunPicture.{Asked, Lends, refusalOf, RanPicture, Outcome, done}
 use Rattle.piet.specs.Drawn.{ranOf, Draws}
 use Rattle.piet.proofs.Bridge.{clash}
 use Rattle.piet.proofs.Built.{picture-follows}
-use Rattle.piet.proofs.Seeing.{length-shades}
+use Rattle.piet.proofs.Seeing.{length-under}
 use Rattle.piet.proofs.Refusing.{Accepted}
 
 -- what classifying leaves where nothing is refused: the colours of the pixels, and past them what was there
 module _ (a : Asked) (l : Lends) (A : Accepted a l) (after : List ℕ) {r : Classified}
     (o : classifying.Outcome (a .pixels) (a .height) (a .width) (a .setting) (l .colours) r after) where
   abbrev colours : List ℕ
-  colours = shades (a .pixels) (a .setting)
+  colours = coloursUnder (a .pixels) (a .setting)
 
   pub painted : after ≡ lent colours (l .colours)
   painted = o .leaves ∙ ap (λ (n : Numbers). unlessRefused n (lent colours (l .colours)) (l .colours)) (o .answers ∙ A .classifies)
@@ -40,7 +40,7 @@ module _ (a : Asked) (l : Lends) (A : Accepted a l) (after : List ℕ) {r : Clas
   unfolding lent
   painted-part =
       let n = a .height * a .width in
-      ap (take n) painted ∙ take-at colours (drop (length colours) (l .colours)) n (length-shades (a .pixels) (a .setting) n (A .passing .bytes))
+      ap (take n) painted ∙ take-at colours (drop (length colours) (l .colours)) n (length-under (a .pixels) (a .setting) n (A .passing .bytes))
 
 -- colours that building does not refuse are built
 pub built : {p : Picture} {map rows exits work map′ rows′ exits′ work′ : List ℕ} {r : Built}
@@ -60,12 +60,12 @@ finished (Refused number row column) h = clash (cc)
 
 -- what is lent, with the colours of the pixels for the lent ones
 abbrev coloured : Asked → Lends → Lends
-coloured a l = record { colours = shades (a .pixels) (a .setting); map = l .map; rows = l .rows; exits = l .exits; work = l .work; run = l .run }
+coloured a l = record { colours = coloursUnder (a .pixels) (a .setting); map = l .map; rows = l .rows; exits = l .exits; work = l .work; run = l .run }
 
 pub drawn : (a : Asked) (l l′ : Lends) {r : Pictured} → refusalOf a l ≡ numbers 0 (0 ∷ 0 ∷ [])
-    → l′ .colours ≡ lent (shades (a .pixels) (a .setting)) (l .colours)
+    → l′ .colours ≡ lent (coloursUnder (a .pixels) (a .setting)) (l .colours)
     → Draws (a .height) (a .width) (a .codel) (a .limit) (a .mode) (a .input) (coloured a l) r (coloured a l′) → Outcome a l r l′
 drawn a l l′ {r} none colours D =
     let F = picture-follows (D .built) (a .limit) (a .mode) (a .input) (l .run) (D .ran) in
-    let R : Runs a l l′ (F .0) = record { colours = colours; regions = D .regions; table = written (D .built); follows = F .2; inside = F .3; run = F .4 } in
+    let R : RanPicture a l l′ (F .0) = record { colours = colours; regions = D .regions; table = written (D .built); follows = F .2; inside = F .3; run = F .4 } in
     subst (λ (x : Pictured). Outcome a l x l′) (sym (finished r (F .1))) (done none R)

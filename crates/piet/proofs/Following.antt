@@ -31,7 +31,7 @@ use Rattle.picture.proofs.Codels.{first-in}
 use Rattle.table.specs.ExitNumber.{targetOf, instructionOf}
 use Rattle.region.specs.Tally.{tally}
 use Rattle.cfg.specs.Nodes.{Node, entry}
-use Rattle.cfg.proofs.NodeLaws.{joined-shade}
+use Rattle.cfg.proofs.NodeLaws.{joined-colour}
 use Rattle.region.specs.Grid.{gridOf}
 use Rattle.region.proofs.MapLaws.{map-low}
 use Rattle.interpreter.specs.Table.{exitOf, pointersOf}
@@ -243,14 +243,14 @@ module _ {p : Picture} {map rows exits : List ℕ} {n : ℕ} (S : Sound p) (B : 
   entry-node : (getD (p .colours) 0 0 ≡ white → ⊥) → Node p map 0
   entry-node W = record {
     found = entry;
-    coloured = λ w. W (first-shade ∙ joined-shade (B .regions .apart 0 (w .codel) (first-in S) (w .inside) (first-zero ∙ sym (w .own))) ∙ w .shade);
+    coloured = λ w. W (first-colour ∙ joined-colour (B .regions .apart 0 (w .codel) (first-in S) (w .inside) (first-zero ∙ sym (w .own))) ∙ w .colourUnder);
   }
     where
       first-zero : getD map 0 0 ≡ 0
       first-zero = omega (arith, map-low (gridOf p) map n (B .regions) 0 (first-in S))
 
-      first-shade : getD (p .colours) 0 0 ≡ codelColour p 0
-      first-shade = rw (zero-div (colsOf p), zero-mod (colsOf p), zero-mul (p .codel), zero-mul (p .width))
+      first-colour : getD (p .colours) 0 0 ≡ codelColour p 0
+      first-colour = rw (zero-div (colsOf p), zero-mod (colsOf p), zero-mul (p .codel), zero-mul (p .width))
 
   -- the run from the start follows the picture
   pub follows : (getD (p .colours) 0 0 ≡ white → ⊥) → (limit : ℕ) → Ends limit (runOf job limit start)

@@ -9,7 +9,7 @@ use native.Mathlib.Decide.{decLt}
 use lib.ListN.{length}
 use lib.Seq.{ext-getD}
 use Rattle.flow.specs.declared.PointerState.{PointerState}
-use Rattle.flow.specs.Pointer.{Valid, numberOf, attemptOf}
+use Rattle.flow.specs.Pointer.{Valid, stateNumber, attemptOf}
 use Rattle.flow.proofs.Order.{number-small, valid-number, valid-attempt}
 use Rattle.machine.specs.declared.Stop.{Stop}
 use Rattle.machine.specs.declared.Stop.the-variants.{Completed, MaxSteps, NeedsInput, StackFull, OutputFull, BadInput}
@@ -102,7 +102,7 @@ module _ {p : Picture} {map : List ℕ} (S : Sound p) (L : length map ≡ codels
   opens-valid : {r t i : ℕ} {q u : PointerState} → Valid q → Opens p map r q t u i → Valid u
   opens-valid v (beside x) = v
   opens-valid {q = q} v (across x) =
-      placed (inside-of S (x .codel) (omega (arith, x .leaves .codel, L))) (valid-number (numberOf q) (number-small q v)) (x .way) .2
+      placed (inside-of S (x .codel) (omega (arith, x .leaves .codel, L))) (valid-number (stateNumber q) (number-small q v)) (x .way) .2
 
   -- ---- so does the first open one
 

@@ -7,20 +7,17 @@ use mathlib.Core.List.{List, [], _∷_}
 use Prim.Native.Nat.{ℕ, suc}
 use native.Mathlib.Omega.{arith}
 use lib.ListN.{length, getD}
-use Rattle.base.specs.Numbers.{Numbers, numbers}
+use Rattle.base.specs.Numbers.{Numbers, numbers, numberOf}
 use Rattle.base.proofs.Refusals as refusing
 use Rattle.cfg.specs.Build as building
 use Rattle.cfg.proofs.Refusing as table
 use Rattle.interpreter.specs.Run.{End}
-use Rattle.interpreter.specs.Outcome.{lentOf, endedOf}
+use Rattle.interpreter.specs.Outcome.{slicesOf, endedOf}
 use Rattle.piet.specs.declared.run_picture.Pictured.{Pictured}
 use Rattle.piet.specs.declared.run_picture.Pictured.the-variants.{Finished, Refused}
-use Rattle.piet.specs.RunPicture.{Asked, Lends, seen, refusalOf, numbered, given, Runs, Outcome, refused, done}
+use Rattle.piet.specs.RunPicture.{Asked, Lends, askedPicture, refusalOf, numbered, given, RanPicture, Outcome, refused, done}
 use Rattle.piet.proofs.Refusing.{accepted}
 use Rattle.piet.proofs.FollowsOnly.{picture-only}
-
-abbrev numberOf : Numbers → ℕ
-numberOf (numbers n v) = n
 
 -- a refusal's number and place name one answer
 abbrev refusedAs : Numbers → Pictured
@@ -40,14 +37,14 @@ run-picture-only (refused k v e n) (done e′ R′) = absurd (refusing.refused k
 run-picture-only (done e R) (refused k v e′ n′) = absurd (refusing.refused k v (0 ∷ 0 ∷ []) (sym e′ ∙ e))
 run-picture-only {a} {l} (done {e = end} e R) (done {e = end′} e′ R′) =
     let A = accepted a l 0 (0 ∷ 0 ∷ []) refl (sym e) in
-    let S = table.accepted (seen a) (length (l .map)) (length (l .rows)) (length (l .exits)) (length (l .work)) (0 ∷ 0 ∷ []) (sym (A .builds)) in
+    let S = table.accepted (askedPicture a) (length (l .map)) (length (l .rows)) (length (l .exits)) (length (l .work)) (0 ∷ 0 ∷ []) (sym (A .builds)) in
     let T = table.outcome-only (building.done (A .builds) (R .table)) (building.done (A .builds) (R′ .table)) in
     let B = R .table .builds in
     let B′ = R′ .table .builds in
     let z : end ≡ end′ = picture-only (S .sound) (B .map-long) (B′ .map-long) (B .regions) (B′ .regions) (given a (l .run)) (R .follows) (R′ .follows) in (
       ap (λ (x : End). Finished (endedOf x)) z,
       same-lends (R .colours ∙ sym (R′ .colours)) (T .map-same) (T .rows-same) (T .exits-same) (T .work-same)
-          (R .run ∙ ap (λ (x : End). lentOf (l .run) (x .at .store)) z ∙ sym (R′ .run)),
+          (R .run ∙ ap (λ (x : End). slicesOf (l .run) (x .at .store)) z ∙ sym (R′ .run)),
     )
 
 -- the number is that of the table of refusals; where it is not 0, the place is the table's too and "no lent byte changes";
@@ -56,7 +53,7 @@ pub record Refusal (a : Asked) (l : Lends) (r : Pictured) (l′ : Lends) : Type 
   pub number : numberOf (numbered r) ≡ numberOf (refusalOf a l)
   pub place : (numberOf (refusalOf a l) ≡ 0 → ⊥) → numbered r ≡ refusalOf a l
   pub unchanged : (numberOf (refusalOf a l) ≡ 0 → ⊥) → l′ ≡ l
-  pub runs : numberOf (refusalOf a l) ≡ 0 → (e : End) × (r ≡ Finished (endedOf e)) × Runs a l l′ e
+  pub runs : numberOf (refusalOf a l) ≡ 0 → (e : End) × (r ≡ Finished (endedOf e)) × RanPicture a l l′ e
 
 pub run-picture-refusal : {a : Asked} {l l′ : Lends} {r : Pictured} → Outcome a l r l′ → Refusal a l r l′
 run-picture-refusal {a} {l} (refused k v e n) = record {

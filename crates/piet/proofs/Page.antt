@@ -16,8 +16,8 @@ use Rattle.colour.proofs.PaletteLaws.{same-bytes}
 use Rattle.colour.specs.Decode as decoding
 use Rattle.colour.specs.Decode.{decodeOf}
 use Rattle.flow.specs.declared.PointerState.{PointerState}
-use Rattle.flow.specs.declared.Next.the-variants.{Codel, Outside}
-use Rattle.flow.specs.Pointer.{Valid, numberOf, attemptOf, flipped, clockwise}
+use Rattle.flow.specs.declared.Ahead.the-variants.{Codel, Outside}
+use Rattle.flow.specs.Pointer.{Valid, stateNumber, attemptOf, flipped, clockwise}
 use Rattle.flow.specs.Neighbour.{aheadOf}
 use Rattle.flow.proofs.Order.{number-small}
 use Rattle.picture.specs.Picture.{Picture, rowsOf, colsOf, codels, colourAt, Sound}
@@ -30,7 +30,7 @@ use Rattle.exit.specs.declared.slide.Slid.{Slid}
 use Rattle.exit.specs.declared.slide.Slid.the-variants.{Landed}
 use Rattle.exit.specs.declared.attempt.Way.the-variants.{Glide}
 use Rattle.exit.specs.Slide.{lookOf, seen, seenAs, mostTurns, Slide, lost, turn, move, land}
-use Rattle.exit.specs.Leaving.{Leaves, behind, reach, sideOf, beats, more}
+use Rattle.exit.specs.Leaving.{LeavesBy, behind, reach, sideOf, beats, more}
 use Rattle.cfg.specs.Nodes.{Tried, regionAt}
 use Rattle.cfg.proofs.NodeLaws.{same-way}
 use Rattle.machine.specs.declared.Op.{Op}
@@ -123,7 +123,7 @@ module _ (rows cols r c : ℕ) where
 
 -- "take the edge of the block that lies furthest in DP's direction; on it the codel that lies furthest to CC's side": no codel
 -- of the block lies further toward DP than the one to leave by, and of those as far none further to CC's side
-pub leaves-furthest : {map : List ℕ} {rows cols region i : ℕ} {s : PointerState} → Leaves map rows cols s region i → (j : ℕ) → j < length map → getD map j 0 ≡ region
+pub leaves-furthest : {map : List ℕ} {rows cols region i : ℕ} {s : PointerState} → LeavesBy map rows cols s region i → (j : ℕ) → j < length map → getD map j 0 ≡ region
     → (reach rows cols (s .dp) j ≤ reach rows cols (s .dp) i)
     × (reach rows cols (s .dp) j ≡ reach rows cols (s .dp) i → reach rows cols (sideOf s) j ≤ reach rows cols (sideOf s) i)
 unfolding beats
@@ -241,7 +241,7 @@ slide-lands {p} {r} {c} {r′} {c′} {n} {s} {o} h e = (λ d. on d e, λ q. sub
 
 -- "Entering a coloured block from white executes nothing"
 pub enters-silently : {p : Picture} {map : List ℕ} {r a b c d target i : ℕ} {q u v : PointerState} → Sound p → length map ≡ codels p → Valid q
-    → Tried p map r (numberOf q) (Glide a b c d u) → Opens p map r q target v i
+    → Tried p map r (stateNumber q) (Glide a b c d u) → Opens p map r q target v i
     → (mode : Bool) (input : List ℕ) (size : ℕ) (m : Store) → exec mode input size (numbered i) m ≡ does m
 unfolding exec
 enters-silently {q = q} S L k t (beside x) mode input size m = let e = same-way (cols-pos S) L (number-small q k) t x in clash (cc)

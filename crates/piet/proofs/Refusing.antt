@@ -13,7 +13,7 @@ use Rattle.colour.specs.Classify as classifying
 use Rattle.cfg.specs.Build as building
 use Rattle.cfg.proofs.Refusing.{none-refused}
 use Rattle.piet.specs.declared.run_picture.Pictured.the-variants.{Refused}
-use Rattle.piet.specs.RunPicture.{Asked, Lends, seen, refusals, refusal, refusalOf, Outcome, refused as refuse}
+use Rattle.piet.specs.RunPicture.{Asked, Lends, askedPicture, refusals, refusal, refusalOf, Outcome, refused as refuse}
 
 -- two tables of refusals, one after the other
 first-append : (a b : List Row) (last : Numbers) → first (a ++ b) last ≡ first a (first b last)
@@ -68,38 +68,38 @@ module _ (a : Asked) (colours map rows exits work : ℕ) where
   classified = classifying.answer (a .pixels) (a .height) (a .width) (a .setting) colours
 
   split : refusal a colours map rows exits work
-      ≡ first (classifying.refusals (a .pixels) (a .height) (a .width) (a .setting) colours) (building.refusal (seen a) map rows exits work)
+      ≡ first (classifying.refusals (a .pixels) (a .height) (a .width) (a .setting) colours) (building.refusal (askedPicture a) map rows exits work)
   unfolding refusal refusals building.refusal
-  split = first-append (classifying.refusals (a .pixels) (a .height) (a .width) (a .setting) colours) (building.refusals (seen a) map rows exits work) (numbers 0 (0 ∷ 0 ∷ []))
+  split = first-append (classifying.refusals (a .pixels) (a .height) (a .width) (a .setting) colours) (building.refusals (askedPicture a) map rows exits work) (numbers 0 (0 ∷ 0 ∷ []))
 
   pub on-classifying : (n : ℕ) (v : List ℕ) → (n ≡ 0 → ⊥) → numbers n v ≡ classified → numbers n v ≡ refusal a colours map rows exits work
   unfolding classifying.answer
   on-classifying zero v some e = absurd (some refl)
-  on-classifying (suc k) v some e = first-refused (classifying.refusals (a .pixels) (a .height) (a .width) (a .setting) colours) k v (0 ∷ 0 ∷ []) (building.refusal (seen a) map rows exits work) e ∙ sym split
+  on-classifying (suc k) v some e = first-refused (classifying.refusals (a .pixels) (a .height) (a .width) (a .setting) colours) k v (0 ∷ 0 ∷ []) (building.refusal (askedPicture a) map rows exits work) e ∙ sym split
 
   pub passes-on : (v : List ℕ) → numbers 0 v ≡ classified → Passes (a .pixels) (a .height) (a .width) (a .setting) colours
   unfolding classifying.answer
   passes-on v e = passes (a .pixels) (a .height) (a .width) (a .setting) colours v (numbers 0 (0 ∷ 0 ∷ [])) e
 
-  pub on-building : (v : List ℕ) → numbers 0 v ≡ classified → building.refusal (seen a) map rows exits work ≡ refusal a colours map rows exits work
-  on-building v e = sym (split ∙ passes-on v e .next (building.refusal (seen a) map rows exits work))
+  pub on-building : (v : List ℕ) → numbers 0 v ≡ classified → building.refusal (askedPicture a) map rows exits work ≡ refusal a colours map rows exits work
+  on-building v e = sym (split ∙ passes-on v e .next (building.refusal (askedPicture a) map rows exits work))
 
 module _ (a : Asked) (l : Lends) where
   -- what a call that is not refused may rely on
   pub record Accepted : Type 0 where
     pub passing : Passes (a .pixels) (a .height) (a .width) (a .setting) (length (l .colours))
     pub classifies : classifying.answer (a .pixels) (a .height) (a .width) (a .setting) (length (l .colours)) ≡ numbers 0 (0 ∷ 0 ∷ [])
-    pub builds : building.refusal (seen a) (length (l .map)) (length (l .rows)) (length (l .exits)) (length (l .work)) ≡ numbers 0 (0 ∷ 0 ∷ [])
+    pub builds : building.refusal (askedPicture a) (length (l .map)) (length (l .rows)) (length (l .exits)) (length (l .work)) ≡ numbers 0 (0 ∷ 0 ∷ [])
     pub none : refusalOf a l ≡ numbers 0 (0 ∷ 0 ∷ [])
 
   pub accepted : (n : ℕ) (v : List ℕ) → n ≡ 0 → numbers n v ≡ refusalOf a l → Accepted
   unfolding classifying.answer
   accepted n v none e =
       let h : numbers 0 v ≡ refusalOf a l = ap (λ (k : ℕ). numbers k v) (sym none) ∙ e in
-      let b = building.refusal (seen a) (length (l .map)) (length (l .rows)) (length (l .exits)) (length (l .work)) in
+      let b = building.refusal (askedPicture a) (length (l .map)) (length (l .rows)) (length (l .exits)) (length (l .work)) in
       let s = split a (length (l .colours)) (length (l .map)) (length (l .rows)) (length (l .exits)) (length (l .work)) in
       let P = passes (a .pixels) (a .height) (a .width) (a .setting) (length (l .colours)) v b (h ∙ s) in
-      let z = none-refused (seen a) (length (l .map)) (length (l .rows)) (length (l .exits)) (length (l .work)) v (h ∙ s ∙ P .next b) in
+      let z = none-refused (askedPicture a) (length (l .map)) (length (l .rows)) (length (l .exits)) (length (l .work)) v (h ∙ s ∙ P .next b) in
       record { passing = P; classifies = P .next (numbers 0 (0 ∷ 0 ∷ [])); builds = z; none = s ∙ P .next b ∙ z }
 
 -- a refusal changes nothing

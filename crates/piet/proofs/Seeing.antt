@@ -10,7 +10,7 @@ use lib.ListN.{length, getD, length-map}
 use Rattle.colour.specs.declared.palette.Found.{Found}
 use Rattle.colour.specs.declared.palette.Found.the-variants.{Known, Unknown}
 use Rattle.colour.specs.Palette.{Rgb, same, palette, numberIn, colourOf, pixelsOf}
-use Rattle.colour.specs.Classify.{found, shade, shades}
+use Rattle.colour.specs.Classify.{found, colourUnder, coloursUnder}
 use Rattle.colour.proofs.ClassifyLaws.{length-found}
 use Rattle.cfg.specs.Build.{legalFirst}
 
@@ -32,31 +32,31 @@ colour-below : (p : Rgb) → Below 20 (colourOf p)
 unfolding colourOf
 colour-below p = number-below palette 0 20 p (omega arith)
 
-shade-small : (s : ℕ) (f : Found) → Below 20 f → shade s f ≤ 19
-unfolding shade
-shade-small s (Known c) h = omega arith
-shade-small s Unknown h = go (eqb s 2)
+under-small : (s : ℕ) (f : Found) → Below 20 f → colourUnder s f ≤ 19
+unfolding colourUnder
+under-small s (Known c) h = omega arith
+under-small s Unknown h = go (eqb s 2)
   where
     go : (b : Bool) → cond b 19 18 ≤ 19
     go true = omega arith
     go false = omega arith
 
-legal-all : (s : ℕ) (ps : List Rgb) → legalFirst (map (shade s) (map colourOf ps)) ≡ length (map (shade s) (map colourOf ps))
+legal-all : (s : ℕ) (ps : List Rgb) → legalFirst (map (colourUnder s) (map colourOf ps)) ≡ length (map (colourUnder s) (map colourOf ps))
 unfolding legalFirst
 legal-all s [] = refl
-legal-all s (p ∷ ps) = rw (le-ltb 19 (shade s (colourOf p)) (shade-small s (colourOf p) (colour-below p))) (ap suc (legal-all s ps))
+legal-all s (p ∷ ps) = rw (le-ltb 19 (colourUnder s (colourOf p)) (under-small s (colourOf p) (colour-below p))) (ap suc (legal-all s ps))
 
-pub legal-shades : (pixels : List ℕ) (s : ℕ) → length (shades pixels s) ≤ legalFirst (shades pixels s)
-unfolding shades found
-legal-shades pixels s = omega (arith, legal-all s (pixelsOf pixels))
+pub legal-under : (pixels : List ℕ) (s : ℕ) → length (coloursUnder pixels s) ≤ legalFirst (coloursUnder pixels s)
+unfolding coloursUnder found
+legal-under pixels s = omega (arith, legal-all s (pixelsOf pixels))
 
-pub length-shades : (pixels : List ℕ) (s n : ℕ) → length pixels ≡ 3 * n → length (shades pixels s) ≡ n
-unfolding shades
-length-shades pixels s n h = length-map (found pixels) (shade s) ∙ length-found pixels n h
+pub length-under : (pixels : List ℕ) (s n : ℕ) → length pixels ≡ 3 * n → length (coloursUnder pixels s) ≡ n
+unfolding coloursUnder
+length-under pixels s n h = length-map (found pixels) (colourUnder s) ∙ length-found pixels n h
 
-pub first-shade : (pixels : List ℕ) (s : ℕ) → 2 < length pixels → shade s (getD (found pixels) 0 Unknown) ≡ getD (shades pixels s) 0 0
-unfolding shades found pixelsOf
-first-shade [] s h = absurd (omega arith)
-first-shade (r ∷ []) s h = absurd (omega arith)
-first-shade (r ∷ g ∷ []) s h = absurd (omega arith)
-first-shade (r ∷ g ∷ b ∷ rest) s h = refl
+pub first-under : (pixels : List ℕ) (s : ℕ) → 2 < length pixels → colourUnder s (getD (found pixels) 0 Unknown) ≡ getD (coloursUnder pixels s) 0 0
+unfolding coloursUnder found pixelsOf
+first-under [] s h = absurd (omega arith)
+first-under (r ∷ []) s h = absurd (omega arith)
+first-under (r ∷ g ∷ []) s h = absurd (omega arith)
+first-under (r ∷ g ∷ b ∷ rest) s h = refl

@@ -3,7 +3,7 @@
 use mathlib.Core.List.{List}
 use Prim.Native.Nat.{ℕ, _<_}
 use Rattle.flow.specs.declared.PointerState.{PointerState}
-use Rattle.flow.specs.Pointer.{numberOf, attemptOf}
+use Rattle.flow.specs.Pointer.{stateNumber, attemptOf}
 use Rattle.colour.specs.Instruction.{none}
 use Rattle.colour.specs.Decode.{decodeOf}
 use Rattle.picture.specs.Picture.{Picture, colourAt, codelColour}
@@ -14,10 +14,10 @@ use Rattle.cfg.specs.Nodes.{Tried, regionAt}
 -- one step along dp, and the slide where that is white) it leads to a region, with new pointers and an instruction.
 pub data Opens (p : Picture) (map : List ℕ) (r : ℕ) (q : PointerState) : ℕ → PointerState → ℕ → Type 0 where
   -- "A coloured boundary gives its region, the same state and the decoded instruction"
-  beside : {a b : ℕ} (t : Tried p map r (numberOf q) (Step a b))
+  beside : {a b : ℕ} (t : Tried p map r (stateNumber q) (Step a b))
       → Opens p map r q (regionAt p map a b) q (decodeOf (codelColour p (t .codel)) (colourAt p a b))
   -- a slide that stops "gives that region, the present state and no instruction"
-  across : {a b c d : ℕ} {u : PointerState} → Tried p map r (numberOf q) (Glide a b c d u)
+  across : {a b c d : ℕ} {u : PointerState} → Tried p map r (stateNumber q) (Glide a b c d u)
       → Opens p map r q (regionAt p map c d) u none
 
 -- the attempt is not open

@@ -9,13 +9,13 @@ use Rattle.base.specs.Numbers.{Numbers, numbers, Row, first}
 use Rattle.base.specs.Lent.{lent}
 use Rattle.picture.specs.Picture.{Picture, picture, codels}
 use Rattle.colour.specs.Classify as classifying
-use Rattle.colour.specs.Classify.{shades}
+use Rattle.colour.specs.Classify.{coloursUnder}
 use Rattle.cfg.specs.Build as building
 use Rattle.cfg.specs.Build.{Written}
 use Rattle.machine.specs.Held as held
-use Rattle.machine.specs.Held.{Lent, stackRoom, outRoom}
+use Rattle.machine.specs.Held.{Slices, stackRoom, outRoom}
 use Rattle.interpreter.specs.Run.{End}
-use Rattle.interpreter.specs.Outcome.{lentOf, endedOf, resultOf}
+use Rattle.interpreter.specs.Outcome.{slicesOf, endedOf, resultOf}
 use Rattle.piet.specs.declared.run_picture.Pictured.{Pictured}
 use Rattle.piet.specs.declared.run_picture.Pictured.the-variants.{Finished, Refused}
 use Rattle.piet.specs.Follows.{Given, Follows}
@@ -38,17 +38,17 @@ pub record Lends : Type 0 where
   pub rows : List ℕ
   pub exits : List ℕ
   pub work : List ℕ
-  pub run : Lent
+  pub run : Slices
 
 -- the picture that is run: a colour for each pixel
-abbrev pub seen : Asked → Picture
-seen a = picture (a .height) (a .width) (a .codel) (shades (a .pixels) (a .setting))
+abbrev pub askedPicture : Asked → Picture
+askedPicture a = picture (a .height) (a .width) (a .codel) (coloursUnder (a .pixels) (a .setting))
 
 -- "then come the refusals of classifying, then of building": the two tables, one after the other; the last five numbers
 -- are the lengths of the lent slices
 unfoldable pub refusals : Asked → ℕ → ℕ → ℕ → ℕ → ℕ → List Row
 refusals a colours map rows exits work =
-    classifying.refusals (a .pixels) (a .height) (a .width) (a .setting) colours ++ building.refusals (seen a) map rows exits work
+    classifying.refusals (a .pixels) (a .height) (a .width) (a .setting) colours ++ building.refusals (askedPicture a) map rows exits work
 
 unfoldable pub refusal : Asked → ℕ → ℕ → ℕ → ℕ → ℕ → Numbers
 refusal a colours map rows exits work = first (refusals a colours map rows exits work) (numbers 0 (0 ∷ 0 ∷ []))
@@ -62,23 +62,23 @@ numbered (Refused number row column) = numbers number (row ∷ column ∷ [])
 numbered (Finished e) = numbers 0 (resultOf e)
 
 -- what the run is given
-abbrev pub given : Asked → Lent → Given
+abbrev pub given : Asked → Slices → Given
 given a l = record { mode = a .mode; input = a .input; stackRoom = stackRoom l; outRoom = outRoom l }
 
 -- what a call leaves that is not refused, where the run ends in e. Demand 3 is `follows`: the run is that of the picture,
 -- its regions numbered in the map by their first codels.
-pub record Runs (a : Asked) (l l′ : Lends) (e : End) : Type 0 where
-  pub colours : l′ .colours ≡ lent (shades (a .pixels) (a .setting)) (l .colours)
+pub record RanPicture (a : Asked) (l l′ : Lends) (e : End) : Type 0 where
+  pub colours : l′ .colours ≡ lent (coloursUnder (a .pixels) (a .setting)) (l .colours)
   pub regions : ℕ
-  pub table : Written (seen a) (l .map) (l .rows) (l .exits) (l .work) (l′ .map) (l′ .rows) (l′ .exits) (l′ .work) regions
-  pub follows : Follows (seen a) (take (codels (seen a)) (l′ .map)) (given a (l .run)) (a .limit) e
+  pub table : Written (askedPicture a) (l .map) (l .rows) (l .exits) (l .work) (l′ .map) (l′ .rows) (l′ .exits) (l′ .work) regions
+  pub follows : Follows (askedPicture a) (take (codels (askedPicture a)) (l′ .map)) (given a (l .run)) (a .limit) e
   pub inside : e .at .region < regions
-  pub run : l′ .run ≡ lentOf (l .run) (e .at .store)
+  pub run : l′ .run ≡ slicesOf (l .run) (e .at .store)
 
 -- what a call answers and leaves: refused, with all that is lent as it was; or the end of the run
 pub data Outcome (a : Asked) (l : Lends) : Pictured → Lends → Type 0 where
   refused : {r : Pictured} (k : ℕ) (v : List ℕ) → refusalOf a l ≡ numbers (suc k) v → numbered r ≡ numbers (suc k) v → Outcome a l r l
-  done : {e : End} {l′ : Lends} → refusalOf a l ≡ numbers 0 (0 ∷ 0 ∷ []) → Runs a l l′ e → Outcome a l (Finished (endedOf e)) l′
+  done : {e : End} {l′ : Lends} → refusalOf a l ≡ numbers 0 (0 ∷ 0 ∷ []) → RanPicture a l l′ e → Outcome a l (Finished (endedOf e)) l′
 
 -- the arguments of a call, in their order
 abbrev pub asked : List ℕ → ℕ → ℕ → ℕ → ℕ → ℕ → Bool → List ℕ → Asked
@@ -87,4 +87,4 @@ asked pixels height width setting codel limit mode input =
 
 abbrev pub lends : List ℕ → List ℕ → List ℕ → List ℕ → List ℕ → List ℤ → List ℕ → List ℤ → Lends
 lends colours map rows exits work stack kinds values =
-    record { colours = colours; map = map; rows = rows; exits = exits; work = work; run = held.lent stack kinds values }
+    record { colours = colours; map = map; rows = rows; exits = exits; work = work; run = held.slices stack kinds values }

@@ -1,4 +1,4 @@
-// From pixels to a run's result, over lent room: classifying, building and running, one after the other.
+// From pixels to a run's result, over slices room: classifying, building and running, one after the other.
 ghost use mathlib.Core.Path.{_≡_};
 ghost use mathlib.Core.Bool.{Bool, false};
 ghost use mathlib.Core.List.{List, [], _∷_};
@@ -7,9 +7,9 @@ ghost use lib.ListN.{length, getD};
 ghost use Rattle.base.specs.Numbers.{numbers};
 ghost use Rattle.base.specs.Limits.{wrongSide};
 ghost use Rattle.picture.specs.Picture.{picture};
-ghost use Rattle.colour.specs.Classify.{shades};
+ghost use Rattle.colour.specs.Classify.{coloursUnder};
 ghost use Rattle.cfg.specs.Build as building;
-ghost use Rattle.machine.specs.Held.{lent};
+ghost use Rattle.machine.specs.Held.{slices};
 ghost use Rattle.interpreter.specs.Outcome.{outcome, outcomeOf};
 ghost use Rattle.piet.specs.RunPicture.{Outcome, asked, lends, refusal};
 ghost use Rattle.piet.specs.Drawn.{ranOf, Draws};
@@ -18,10 +18,10 @@ use cfg::Built;
 use cfg::codel_count;
 use cfg::too_short;
 use colour::classify::Told;
+use colour::classify::colour_under;
 use colour::classify::found_at;
 use colour::classify::in_numbers;
 use colour::classify::placeless;
-use colour::classify::shade_of;
 use colour::palette::WHITE;
 use interpreter::Ended;
 use interpreter::Ran;
@@ -39,14 +39,14 @@ pub enum Pictured {
 // The colour of the first pixel.
 fn first_colour(pixels: &[u8], setting: u8) -> u8
     requires { ⌜ 2 < length (now pixels) ⌝ }
-    ensures { λ r. ⌜ r ≡ getD (shades (now (pixels .entry)) setting) 0 0 ⌝ }
+    ensures { λ r. ⌜ r ≡ getD (coloursUnder (now (pixels .entry)) setting) 0 0 ⌝ }
 {
     let f = found_at(pixels, 0);
-    shade_of(setting, f)
+    colour_under(setting, f)
 }
 
 // Building's tests in document 01's order, where classifying refuses nothing: the pixels are then as many as they should
-// be and their colours at most 19. The lent slices are given by their lengths.
+// be and their colours at most 19. The slices slices are given by their lengths.
 fn check_table(
     pixels: &[u8],
     height: usize,
@@ -60,7 +60,7 @@ fn check_table(
 ) -> u32
     requires { ⌜ (wrongSide height ≡ false) × (wrongSide width ≡ false) ⌝ }
     requires { ⌜ length (now pixels) ≡ 3 * (height * width) ⌝ }
-    ensures { λ r. ⌜ numbers r (0 ∷ 0 ∷ []) ≡ building.refusal (picture height width codel (shades (now (pixels .entry)) setting)) map rows exits work ⌝ }
+    ensures { λ r. ⌜ numbers r (0 ∷ 0 ∷ []) ≡ building.refusal (picture height width codel (coloursUnder (now (pixels .entry)) setting)) map rows exits work ⌝ }
 {
     if wrong_side(codel) {
         return 6;
@@ -125,7 +125,7 @@ fn run_table(
     kinds: &mut [u8],
     values: &mut [i64],
 ) -> Pictured
-    ensures { λ r. ⌜ outcome (ranOf r) (now (stack .exit)) (now (kinds .exit)) (now (values .exit)) ≡ outcomeOf n (now (rows .entry)) (now (exits .entry)) limit «abstract_mode» (now (input .entry)) (lent (now (stack .entry)) (now (kinds .entry)) (now (values .entry))) ⌝ }
+    ensures { λ r. ⌜ outcome (ranOf r) (now (stack .exit)) (now (kinds .exit)) (now (values .exit)) ≡ outcomeOf n (now (rows .entry)) (now (exits .entry)) limit «abstract_mode» (now (input .entry)) (slices (now (stack .entry)) (now (kinds .entry)) (now (values .entry))) ⌝ }
 {
     match interpreter::run(
         n,
@@ -189,7 +189,7 @@ fn run_colours(
     }
 }
 
-// The run of a picture of pixels: its colours, its table and the run's stack and outputs stand in the lent slices. Where
+// The run of a picture of pixels: its colours, its table and the run's stack and outputs stand in the slices slices. Where
 // the call is refused, no slice is changed.
 pub fn run_picture(
     pixels: &[u8],

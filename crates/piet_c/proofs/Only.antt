@@ -5,13 +5,13 @@ use mathlib.Core.List.{List}
 use Prim.Native.Nat.{ℕ, _<_, _≤_}
 use native.Mathlib.Omega.{arith}
 use Rattle.base.specs.Lent.{lent}
-use Rattle.base.specs.Numbers.{Numbers}
-use Rattle.machine.specs.Held.{Lent}
+use Rattle.base.specs.Numbers.{Numbers, numberOf, valuesOf}
+use Rattle.machine.specs.Held.{Slices}
 use Rattle.interpreter.specs.Outcome as running
 use Rattle.interpreter.specs.Forever as always
 use Rattle.interpreter.proofs.Only.{run-only}
-use Rattle.piet_c.specs.Exported.{numberOf, valuesOf, Exported, short, made}
-use Rattle.piet_c.specs.Calls.{Classifies, Labels, Builds, Slices, Runs, Tells}
+use Rattle.piet_c.specs.Exported.{Exported, short, made}
+use Rattle.piet_c.specs.Calls.{ClassifyCall, LabelCall, BuildCall, TableRoom, RunCall, ForeverCall}
 use Rattle.picture.specs.Picture.{Picture}
 use Rattle.colour.proofs.Only.{classify-only, label-only}
 use Rattle.colour.specs.Classify as classifying
@@ -38,29 +38,29 @@ exported-only {answer = answer} d (made n h m e g) (made n′ h′ m′ e′ g�
     let s = d n n′ _ _ m m′ in
     (e ∙ ap numberOf (s .0) ∙ sym e′, s .1, g ∙ ap (λ (x : Numbers). lent (valuesOf x) answer) (s .0) ∙ sym g′)
 
-pub classifies : (pixels : List ℕ) (height width setting : ℕ) (colours : List ℕ) → Settles (Classifies pixels height width setting colours)
+pub classifies : (pixels : List ℕ) (height width setting : ℕ) (colours : List ℕ) → Settles (ClassifyCall pixels height width setting colours)
 classifies pixels height width setting colours n n′ s s′ (r, e, o) (r′, e′, o′) =
     let d = classify-only o o′ in (sym e ∙ ap classifying.numbered (d .0) ∙ e′, d .1)
 
-pub labels : (colour row column : ℕ) (out : List ℕ) → Settles (Labels colour row column out)
+pub labels : (colour row column : ℕ) (out : List ℕ) → Settles (LabelCall colour row column out)
 labels colour row column out n n′ s s′ (r, e, o) (r′, e′, o′) =
     let d = label-only o o′ in (sym e ∙ ap labelling.numbered (d .0) ∙ e′, d .1)
 
-same-slices : {s s′ : Slices} → s .map ≡ s′ .map → s .rows ≡ s′ .rows → s .exits ≡ s′ .exits → s .work ≡ s′ .work → s ≡ s′
-same-slices a b c d = λ i. record { map = a i; rows = b i; exits = c i; work = d i }
+same-room : {s s′ : TableRoom} → s .map ≡ s′ .map → s .rows ≡ s′ .rows → s .exits ≡ s′ .exits → s .work ≡ s′ .work → s ≡ s′
+same-room a b c d = λ i. record { map = a i; rows = b i; exits = c i; work = d i }
 
-pub builds : (p : Picture) (s : Slices) → Settles (Builds p s)
+pub builds : (p : Picture) (s : TableRoom) → Settles (BuildCall p s)
 builds p s n n′ t t′ (r, e, o) (r′, e′, o′) =
     let d = outcome-only o o′ in
-    (sym e ∙ ap building.numbered (d .answer) ∙ e′, same-slices (d .map-same) (d .rows-same) (d .exits-same) (d .work-same))
+    (sym e ∙ ap building.numbered (d .answer) ∙ e′, same-room (d .map-same) (d .rows-same) (d .exits-same) (d .work-same))
 
-same-lent : {l l′ : Lent} → l .stack ≡ l′ .stack → l .kinds ≡ l′ .kinds → l .values ≡ l′ .values → l ≡ l′
-same-lent a b c = λ i. record { stack = a i; kinds = b i; values = c i }
+same-slices : {l l′ : Slices} → l .stack ≡ l′ .stack → l .kinds ≡ l′ .kinds → l .values ≡ l′ .values → l ≡ l′
+same-slices a b c = λ i. record { stack = a i; kinds = b i; values = c i }
 
-pub runs : (k : ℕ) (rows exits : List ℕ) (limit : ℕ) (mode : Bool) (input : List ℕ) (l : Lent) → Settles (Runs k rows exits limit mode input l)
+pub runs : (k : ℕ) (rows exits : List ℕ) (limit : ℕ) (mode : Bool) (input : List ℕ) (l : Slices) → Settles (RunCall k rows exits limit mode input l)
 runs k rows exits limit mode input l n n′ s s′ (r, e, o) (r′, e′, o′) =
     let d = run-only k rows exits limit mode input l o o′ in
-    (sym e ∙ ap running.numbered (d .0) ∙ e′, same-lent (d .1) (d .2) (d .3))
+    (sym e ∙ ap running.numbered (d .0) ∙ e′, same-slices (d .1) (d .2) (d .3))
 
-pub tells : (k : ℕ) (rows exits : List ℕ) → Settles (Tells k rows exits)
+pub tells : (k : ℕ) (rows exits : List ℕ) → Settles (ForeverCall k rows exits)
 tells k rows exits n n′ s s′ (r, e, o) (r′, e′, o′) = (sym e ∙ ap always.numbered (o ∙ sym o′) ∙ e′, refl)

@@ -5,8 +5,8 @@ use Prim.Native.Nat.{ℕ, _≤_}
 use native.Mathlib.Omega.{arith}
 use lib.ListN.{length, set}
 use Rattle.base.specs.Lent.{lent}
-use Rattle.base.specs.Numbers.{Numbers, numbers}
-use Rattle.piet_c.specs.Exported.{numberOf, valuesOf, Exported, made}
+use Rattle.base.specs.Numbers.{Numbers, numbers, numberOf, valuesOf}
+use Rattle.piet_c.specs.Exported.{Exported, made}
 
 pub one-put : (l : List ℕ) (a : ℕ) → 1 ≤ length l → set l 0 a ≡ lent (a ∷ []) l
 unfolding lent

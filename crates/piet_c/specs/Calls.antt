@@ -11,39 +11,39 @@ use Rattle.colour.specs.Label as labelling
 use Rattle.cfg.specs.declared.building.Built.{Built}
 use Rattle.cfg.specs.Build as building
 use mathlib.Core.Bool.{Bool}
-use Rattle.machine.specs.Held.{Lent}
+use Rattle.machine.specs.Held.{Slices}
 use Rattle.interpreter.specs.declared.Ran.{Ran}
 use Rattle.interpreter.specs.declared.Forever.{Forever}
 use Rattle.interpreter.specs.Outcome as running
 use Rattle.interpreter.specs.Forever as always
 
-abbrev pub Classifies : List ℕ → ℕ → ℕ → ℕ → List ℕ → Numbers → List ℕ → Type 0
-Classifies pixels height width setting colours n colours′ =
+abbrev pub ClassifyCall : List ℕ → ℕ → ℕ → ℕ → List ℕ → Numbers → List ℕ → Type 0
+ClassifyCall pixels height width setting colours n colours′ =
     (r : Classified) × (classifying.numbered r ≡ n) × classifying.Outcome pixels height width setting colours r colours′
 
-abbrev pub Labels : ℕ → ℕ → ℕ → List ℕ → Numbers → List ℕ → Type 0
-Labels colour row column out n out′ = (r : Labelled) × (labelling.numbered r ≡ n) × labelling.Outcome colour row column out r out′
+abbrev pub LabelCall : ℕ → ℕ → ℕ → List ℕ → Numbers → List ℕ → Type 0
+LabelCall colour row column out n out′ = (r : Labelled) × (labelling.numbered r ≡ n) × labelling.Outcome colour row column out r out′
 
 -- the four slices that building lends
-pub record Slices : Type 0 where
+pub record TableRoom : Type 0 where
   pub map : List ℕ
   pub rows : List ℕ
   pub exits : List ℕ
   pub work : List ℕ
 
-abbrev pub slices : List ℕ → List ℕ → List ℕ → List ℕ → Slices
-slices map rows exits work = record { map = map; rows = rows; exits = exits; work = work }
+abbrev pub tableRoom : List ℕ → List ℕ → List ℕ → List ℕ → TableRoom
+tableRoom map rows exits work = record { map = map; rows = rows; exits = exits; work = work }
 
-abbrev pub Builds : Picture → Slices → Numbers → Slices → Type 0
-Builds p s n s′ =
+abbrev pub BuildCall : Picture → TableRoom → Numbers → TableRoom → Type 0
+BuildCall p s n s′ =
     (r : Built) × (building.numbered r ≡ n)
     × building.Outcome p (s .map) (s .rows) (s .exits) (s .work) r (s′ .map) (s′ .rows) (s′ .exits) (s′ .work)
 
-abbrev pub Runs : ℕ → List ℕ → List ℕ → ℕ → Bool → List ℕ → Lent → Numbers → Lent → Type 0
-Runs n rows exits limit mode input l k l′ =
+abbrev pub RunCall : ℕ → List ℕ → List ℕ → ℕ → Bool → List ℕ → Slices → Numbers → Slices → Type 0
+RunCall n rows exits limit mode input l k l′ =
     (r : Ran) × (running.numbered r ≡ k)
     × (running.outcome r (l′ .stack) (l′ .kinds) (l′ .values) ≡ running.outcomeOf n rows exits limit mode input l)
 
 -- nothing is lent besides the answer
-abbrev pub Tells : ℕ → List ℕ → List ℕ → Numbers → Unit {0} → Type 0
-Tells n rows exits k u = (r : Forever) × (always.numbered r ≡ k) × (r ≡ always.foreverOf n rows exits)
+abbrev pub ForeverCall : ℕ → List ℕ → List ℕ → Numbers → Unit {0} → Type 0
+ForeverCall n rows exits k u = (r : Forever) × (always.numbered r ≡ k) × (r ≡ always.foreverOf n rows exits)

@@ -4,14 +4,7 @@ use mathlib.Core.List.{List}
 use Prim.Native.Nat.{ℕ, _<_, _≤_}
 use lib.ListN.{length}
 use Rattle.base.specs.Lent.{lent}
-use Rattle.base.specs.Numbers.{Numbers, numbers}
-
--- the number that is returned, and the values that the answer's first cells get
-abbrev pub numberOf : Numbers → ℕ
-numberOf (numbers n values) = n
-
-abbrev pub valuesOf : Numbers → List ℕ
-valuesOf (numbers n values) = values
+use Rattle.base.specs.Numbers.{Numbers, numberOf, valuesOf}
 
 -- A call that names `need` cells of the answer, over what is lent besides. Too short an answer: 4 before all else, and
 -- nothing changes. Else the call is made: its number is returned, its values stand in the first cells of the answer, and the

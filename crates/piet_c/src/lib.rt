@@ -13,7 +13,7 @@ ghost use Rattle.machine.specs.Held as held;
 ghost use Rattle.interpreter.specs.Outcome as running;
 ghost use Rattle.interpreter.specs.Forever as always;
 ghost use Rattle.piet_c.specs.Exported.{Exported};
-ghost use Rattle.piet_c.specs.Calls.{Classifies, Labels, Builds, slices, Runs, Tells};
+ghost use Rattle.piet_c.specs.Calls.{ClassifyCall, LabelCall, BuildCall, tableRoom, RunCall, ForeverCall};
 use cfg::Built;
 use colour::classify::in_numbers;
 use colour::label::Labelled;
@@ -135,7 +135,7 @@ pub extern "C" fn piet_classify(
     colours: &mut [u8],
     answer: &mut [u64],
 ) -> u32
-    ensures { λ r. ⌜ Exported 2 (Classifies (now (pixels .entry)) height width setting (now (colours .entry))) (now (colours .entry)) (now (answer .entry)) r (now (colours .exit)) (now (answer .exit)) ⌝ }
+    ensures { λ r. ⌜ Exported 2 (ClassifyCall (now (pixels .entry)) height width setting (now (colours .entry))) (now (colours .entry)) (now (answer .entry)) r (now (colours .exit)) (now (answer .exit)) ⌝ }
 {
     if answer.len() < 2 {
         return 4;
@@ -154,7 +154,7 @@ pub extern "C" fn piet_label(
     out: &mut [u8],
     answer: &mut [u64],
 ) -> u32
-    ensures { λ r. ⌜ Exported 1 (Labels colour row column (now (out .entry))) (now (out .entry)) (now (answer .entry)) r (now (out .exit)) (now (answer .exit)) ⌝ }
+    ensures { λ r. ⌜ Exported 1 (LabelCall colour row column (now (out .entry))) (now (out .entry)) (now (answer .entry)) r (now (out .exit)) (now (answer .exit)) ⌝ }
 {
     if answer.len() < 1 {
         return 4;
@@ -177,7 +177,7 @@ pub extern "C" fn piet_build(
     work: &mut [u32],
     answer: &mut [u64],
 ) -> u32
-    ensures { λ r. ⌜ Exported 2 (Builds (picture height width codel (now (colours .entry))) (slices (now (map .entry)) (now (rows .entry)) (now (exits .entry)) (now (work .entry)))) (slices (now (map .entry)) (now (rows .entry)) (now (exits .entry)) (now (work .entry))) (now (answer .entry)) r (slices (now (map .exit)) (now (rows .exit)) (now (exits .exit)) (now (work .exit))) (now (answer .exit)) ⌝ }
+    ensures { λ r. ⌜ Exported 2 (BuildCall (picture height width codel (now (colours .entry))) (tableRoom (now (map .entry)) (now (rows .entry)) (now (exits .entry)) (now (work .entry)))) (tableRoom (now (map .entry)) (now (rows .entry)) (now (exits .entry)) (now (work .entry))) (now (answer .entry)) r (tableRoom (now (map .exit)) (now (rows .exit)) (now (exits .exit)) (now (work .exit))) (now (answer .exit)) ⌝ }
 {
     if answer.len() < 2 {
         return 4;
@@ -253,7 +253,7 @@ pub extern "C" fn piet_determine_runs_forever(
     exits: &[u32],
     answer: &mut [u64],
 ) -> u32
-    ensures { λ r. ⌜ Exported 1 (Tells n (now (rows .entry)) (now (exits .entry))) tt (now (answer .entry)) r tt (now (answer .exit)) ⌝ }
+    ensures { λ r. ⌜ Exported 1 (ForeverCall n (now (rows .entry)) (now (exits .entry))) tt (now (answer .entry)) r tt (now (answer .exit)) ⌝ }
 {
     if answer.len() < 1 {
         return 4;
@@ -277,7 +277,7 @@ pub extern "C" fn piet_run(
     values: &mut [i64],
     answer: &mut [u64],
 ) -> u32
-    ensures { λ r. ⌜ Exported 8 (Runs n (now (rows .entry)) (now (exits .entry)) limit «abstract_mode» (now (input .entry)) (held.lent (now (stack .entry)) (now (kinds .entry)) (now (values .entry)))) (held.lent (now (stack .entry)) (now (kinds .entry)) (now (values .entry))) (now (answer .entry)) r (held.lent (now (stack .exit)) (now (kinds .exit)) (now (values .exit))) (now (answer .exit)) ⌝ }
+    ensures { λ r. ⌜ Exported 8 (RunCall n (now (rows .entry)) (now (exits .entry)) limit «abstract_mode» (now (input .entry)) (held.slices (now (stack .entry)) (now (kinds .entry)) (now (values .entry)))) (held.slices (now (stack .entry)) (now (kinds .entry)) (now (values .entry))) (now (answer .entry)) r (held.slices (now (stack .exit)) (now (kinds .exit)) (now (values .exit))) (now (answer .exit)) ⌝ }
 {
     if answer.len() < 8 {
         return 4;

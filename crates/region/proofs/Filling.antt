@@ -12,16 +12,16 @@ use native.Mathlib.Decide.{ℕ-discrete, decLt}
 use native.Mathlib.Omega.{arith}
 use lib.ListN.{length, getD, set, drop, length-set}
 use lib.Seq.{getD-set-same, drop-set-lt, set-set, set-getD}
-use Rattle.region.specs.Grid.{Grid, count, Toward, Next}
+use Rattle.region.specs.Grid.{Grid, count, Toward, Adjacent}
 use Rattle.region.specs.Region.{Joined, here, on, Earlier}
-use Rattle.region.specs.Steps.{mark, vacant, New, Spread, Part, Numbered}
+use Rattle.region.specs.Steps.{unnumbered, vacant, New, Spread, Part, Numbered}
 use Rattle.region.proofs.Cells.{stored}
 use Rattle.region.proofs.TallyLaws.{tally-set, tally-most}
 use Rattle.region.proofs.Paths.{four, next-back, joined-trans, joined-sym}
 
 -- codel j has got the number k, and is joined to the seed
 pub record Got (g : Grid) (seed k : ℕ) (m₀ m : List ℕ) (j : ℕ) : Type 0 where
-  pub was : getD m₀ j 0 ≡ mark
+  pub was : getD m₀ j 0 ≡ unnumbered
   pub is : getD m j 0 ≡ k
   pub path : Joined g seed j
 
@@ -31,7 +31,7 @@ Waits h w t j = (q : ℕ) × (h ≤ q) × (q < t) × (getD w q 0 ≡ j)
 
 -- the neighbours of codel j that have its colour have a number
 abbrev Done : Grid → List ℕ → ℕ → Type 0
-Done g m j = (l : ℕ) → Next g j l → g .colour j ≡ g .colour l → getD m l 0 ≢ mark
+Done g m j = (l : ℕ) → Adjacent g j l → g .colour j ≡ g .colour l → getD m l 0 ≢ unnumbered
 
 -- m₀ and w₀ are the slices before the seed; the queue is w from h to t
 pub record Filling (g : Grid) (seed k : ℕ) (m₀ w₀ : List ℕ) (h : ℕ) (m w : List ℕ) (t : ℕ) : Type 0 where
@@ -47,10 +47,10 @@ pub record Filling (g : Grid) (seed k : ℕ) (m₀ w₀ : List ℕ) (h : ℕ) (m
   pub work-rest : drop (count g) w ≡ drop (count g) w₀
 
 -- no codel has the next number yet
-new-number : (g : Grid) (i k : ℕ) (m : List ℕ) → Part g i k m → k < mark → (j : ℕ) → j < count g → getD m j 0 ≢ k
+new-number : (g : Grid) (i k : ℕ) (m : List ℕ) → Part g i k m → k < unnumbered → (j : ℕ) → j < count g → getD m j 0 ≢ k
 new-number g i k m p small j h e = omega (arith, p .below j h (omega arith))
 
-module _ (g : Grid) (seed k : ℕ) (m₀ w₀ : List ℕ) (p : Part g seed k m₀) (small : k < mark) (inside : seed < count g) (free : getD m₀ seed 0 ≡ mark) where
+module _ (g : Grid) (seed k : ℕ) (m₀ w₀ : List ℕ) (p : Part g seed k m₀) (small : k < unnumbered) (inside : seed < count g) (free : getD m₀ seed 0 ≡ unnumbered) where
   module _ (long : count g ≤ length m₀) (wide : count g ≤ length w₀) where
     here₀ : seed < length m₀
     here₀ = omega arith
@@ -75,7 +75,7 @@ module _ (g : Grid) (seed k : ℕ) (m₀ w₀ : List ℕ) (p : Part g seed k m�
           (λ a. inl (0, le-refl 0, omega arith, getD-set-same w₀ 0 seed 0 there₀ ∙ sym (a .0)))
           (λ a. absurd (new-number g seed k m₀ p small j h (sym (a .1) ∙ e)))
           (stored m₀ seed k j here₀);
-      room = omega (arith, tally-most mark (count g) m₀, tally-set mark (count g) m₀ seed k inside here₀ free (omega arith));
+      room = omega (arith, tally-most unnumbered (count g) m₀, tally-set unnumbered (count g) m₀ seed k inside here₀ free (omega arith));
       map-length = length-set m₀ seed k;
       work-length = refl;
       map-rest = drop-set-lt (count g) m₀ seed k inside;
@@ -88,7 +88,7 @@ module _ (g : Grid) (seed k : ℕ) (m₀ w₀ : List ℕ) (p : Part g seed k m�
     path j l e = ⊎-elim (λ a. absurd (new-number g seed k m₀ p small j l (sym a ∙ e))) (λ a. a .path) (f .cells j l)
 
     -- a codel without a number had none
-    had-none : (j : ℕ) → j < count g → getD m j 0 ≡ mark → getD m₀ j 0 ≡ mark
+    had-none : (j : ℕ) → j < count g → getD m j 0 ≡ unnumbered → getD m₀ j 0 ≡ unnumbered
     had-none j l e = ⊎-elim (λ a. sym a ∙ e) (λ a. a .was) (f .cells j l)
 
     module _ (m′ w′ : List ℕ) (t′ : ℕ) (more : h < t) (s : Spread g k (getD w h 0) 4 m w t m′ w′ t′) where
@@ -96,14 +96,14 @@ module _ (g : Grid) (seed k : ℕ) (m₀ w₀ : List ℕ) (p : Part g seed k m�
       kept : (j : ℕ) → j < count g → getD m j 0 ≡ k → getD m′ j 0 ≡ k
       kept j l e = ⊎-elim (λ a. a ∙ e) (λ a. a .is) (s .cells j l)
 
-      some : (j : ℕ) → j < count g → getD m j 0 ≢ mark → getD m′ j 0 ≢ mark
+      some : (j : ℕ) → j < count g → getD m j 0 ≢ unnumbered → getD m′ j 0 ≢ unnumbered
       some j l d e = ⊎-elim (λ a. d (sym a ∙ e)) (λ a. d (a .was)) (s .cells j l)
 
       got : (j : ℕ) → j < count g → New g k (getD w h 0) m t m′ w′ t′ j → Got g seed k m₀ m′ j
       got j l a = record {
         was = had-none j l (a .was);
         is = a .is;
-        path = on (path (getD w h 0) (f .queue h more .0) (f .queue h more .1)) (a .next) (a .shade);
+        path = on (path (getD w h 0) (f .queue h more .0) (f .queue h more .1)) (a .next) (a .colour);
       }
 
       cells : (j : ℕ) → j < count g → (getD m′ j 0 ≡ getD m₀ j 0) ⊎ Got g seed k m₀ m′ j
@@ -129,12 +129,12 @@ module _ (g : Grid) (seed k : ℕ) (m₀ w₀ : List ℕ) (p : Part g seed k m�
           by-cases (ℕ-discrete (q .0) h)
           (λ here.
           let at : getD w h 0 ≡ j = sym (ap (λ (x : ℕ). getD w x 0) here) ∙ q .3 in
-          inr (λ i n shade.
+          inr (λ i n colour.
           s .reach (n .way) (four (g .cols) (n .way) j i (n .toward)) i (n .to)
           (subst (λ (x : ℕ). Toward (g .cols) (n .way) x i) (sym at) (n .toward))
-          (ap (g .colour) at ∙ shade)))
+          (ap (g .colour) at ∙ colour)))
           (λ other. inl (q .0, omega (arith, q .1), omega (arith, q .2, s .on), s .old (q .0) (q .2) ∙ q .3)))
-          (λ d. inr (λ i n shade. some i (n .to) (d i n shade)))
+          (λ d. inr (λ i n colour. some i (n .to) (d i n colour)))
           (f .done j l (sym a ∙ e)))
           (λ a. inl (a .at, omega (arith, a .from), a .until, a .stands))
           (s .cells j l)
@@ -156,26 +156,26 @@ module _ (g : Grid) (seed k : ℕ) (m₀ w₀ : List ℕ) (p : Part g seed k m�
     -- the queue is empty
     module _ (empty : t ≤ h) where
       -- the neighbours of a new codel that have its colour are new
-      spread : (j l : ℕ) → Next g j l → g .colour j ≡ g .colour l → Got g seed k m₀ m j → getD m j 0 ≡ getD m l 0
-      spread j l n shade a =
-          let some : getD m l 0 ≢ mark = ⊎-elim (λ q. absurd (omega (arith, q .1, q .2))) (λ d. d l n shade) (f .done j (n .from) (a .is)) in
+      spread : (j l : ℕ) → Adjacent g j l → g .colour j ≡ g .colour l → Got g seed k m₀ m j → getD m j 0 ≡ getD m l 0
+      spread j l n colour a =
+          let some : getD m l 0 ≢ unnumbered = ⊎-elim (λ q. absurd (omega (arith, q .1, q .2))) (λ d. d l n colour) (f .done j (n .from) (a .is)) in
           ⊎-elim
-          (λ e. absurd (some (e ∙ sym (p .even j l n shade) ∙ a .was)))
+          (λ e. absurd (some (e ∙ sym (p .even j l n colour) ∙ a .was)))
           (λ b. a .is ∙ sym (b .is))
           (f .cells l (n .to))
 
-      even : (j l : ℕ) → Next g j l → g .colour j ≡ g .colour l → getD m j 0 ≡ getD m l 0
-      even j l n shade =
+      even : (j l : ℕ) → Adjacent g j l → g .colour j ≡ g .colour l → getD m j 0 ≡ getD m l 0
+      even j l n colour =
           ⊎-elim
           (λ a.
           ⊎-elim
-          (λ b. a ∙ p .even j l n shade ∙ sym b)
-          (λ b. sym (spread l j (next-back n) (sym shade) b))
+          (λ b. a ∙ p .even j l n colour ∙ sym b)
+          (λ b. sym (spread l j (next-back n) (sym colour) b))
           (f .cells l (n .to)))
-          (λ a. spread j l n shade a)
+          (λ a. spread j l n colour a)
           (f .cells j (n .from))
 
-      one : (j l : ℕ) → j < count g → l < count g → getD m j 0 ≢ mark → getD m j 0 ≡ getD m l 0 → Joined g j l
+      one : (j l : ℕ) → j < count g → l < count g → getD m j 0 ≢ unnumbered → getD m j 0 ≡ getD m l 0 → Joined g j l
       one j l hj hl d e =
           ⊎-elim
           (λ a.
@@ -187,7 +187,7 @@ module _ (g : Grid) (seed k : ℕ) (m₀ w₀ : List ℕ) (p : Part g seed k m�
           (f .cells j hj)
 
       -- a number that was there is there
-      stays : (j : ℕ) → j < count g → getD m₀ j 0 ≢ mark → getD m j 0 ≡ getD m₀ j 0
+      stays : (j : ℕ) → j < count g → getD m₀ j 0 ≢ unnumbered → getD m j 0 ≡ getD m₀ j 0
       stays j h d = ⊎-elim (λ a. a) (λ a. absurd (d (a .was))) (f .cells j h)
 
       earlier : (i r : ℕ) → i ≤ count g → r < k → Earlier m₀ i r → Earlier m i r
@@ -199,11 +199,11 @@ module _ (g : Grid) (seed k : ℕ) (m₀ w₀ : List ℕ) (p : Part g seed k m�
           (λ less. let (j, l, e) = earlier seed r (omega arith) less (p .used r less) in (j, omega arith, e))
           (λ last. (seed, omega arith, f .start ∙ omega arith))
 
-      order : (j : ℕ) → j < count g → getD m j 0 ≢ mark → (r : ℕ) → r < getD m j 0 → Earlier m j r
+      order : (j : ℕ) → j < count g → getD m j 0 ≢ unnumbered → (r : ℕ) → r < getD m j 0 → Earlier m j r
       order j h d r less =
           ⊎-elim
           (λ a.
-          let d₀ : getD m₀ j 0 ≢ mark = λ z. d (a ∙ z) in
+          let d₀ : getD m₀ j 0 ≢ unnumbered = λ z. d (a ∙ z) in
           earlier j r (omega arith) (omega (arith, p .below j h d₀)) (p .order j h d₀ r (omega arith)))
           (λ a.
           let (i, l, e) = earlier seed r (omega arith) (omega (arith, a .is)) (p .used r (omega (arith, a .is))) in
@@ -229,21 +229,21 @@ module _ (g : Grid) (seed k : ℕ) (m₀ w₀ : List ℕ) (p : Part g seed k m�
       }
 
 -- the seed's cell before the seed was numbered
-unset : (m : List ℕ) (seed k : ℕ) → getD m seed 0 ≡ mark → set (set m seed k) seed mark ≡ m
-unset m seed k free = set-set m seed k mark ∙ ap (set m seed) (sym free) ∙ set-getD m seed 0
+unset : (m : List ℕ) (seed k : ℕ) → getD m seed 0 ≡ unnumbered → set (set m seed k) seed unnumbered ≡ m
+unset m seed k free = set-set m seed k unnumbered ∙ ap (set m seed) (sym free) ∙ set-getD m seed 0
 
 -- what is known where a region's first codel is found: m₀ and w₀ are the slices there
 pub record Seeded (g : Grid) (seed k : ℕ) (m₀ w₀ : List ℕ) : Type 0 where
   pub part : Part g seed k m₀
-  pub small : k < mark
+  pub small : k < unnumbered
   pub inside : seed < count g
-  pub free : getD m₀ seed 0 ≡ mark
+  pub free : getD m₀ seed 0 ≡ unnumbered
   pub long : count g ≤ length m₀
   pub wide : count g ≤ length w₀
 
 -- the loop's invariant: m₁ and w₁ are the slices where the loop begins, with the seed numbered and queued
 abbrev pub Flooding : Grid → ℕ → ℕ → List ℕ → List ℕ → ℕ → List ℕ → List ℕ → ℕ → Type 0
-Flooding g seed k m₁ w₁ h m w t = Filling g seed k (set m₁ seed mark) w₁ h m w t
+Flooding g seed k m₁ w₁ h m w t = Filling g seed k (set m₁ seed unnumbered) w₁ h m w t
 
 pub flood-start : {g : Grid} {seed k : ℕ} {m₀ w₀ : List ℕ} → Seeded g seed k m₀ w₀
     → Flooding g seed k (set m₀ seed k) (set w₀ 0 seed) 0 (set m₀ seed k) (set w₀ 0 seed) 1

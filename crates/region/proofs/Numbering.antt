@@ -12,9 +12,9 @@ use native.Mathlib.Omega.{arith}
 use lib.ListN.{length, getD}
 use Rattle.region.specs.Grid.{Grid, count}
 use Rattle.region.specs.Region.{Joined, here, on, IsMap}
-use Rattle.region.specs.Steps.{mark, Part, Numbered}
+use Rattle.region.specs.Steps.{unnumbered, Part, Numbered}
 
-pub part-none : {g : Grid} {m : List ℕ} → ((j : ℕ) → j < count g → getD m j 0 ≡ mark) → Part g 0 0 m
+pub part-none : {g : Grid} {m : List ℕ} → ((j : ℕ) → j < count g → getD m j 0 ≡ unnumbered) → Part g 0 0 m
 part-none marked = record {
   few = omega arith;
   passed = λ j h. absurd (omega arith);
@@ -25,7 +25,7 @@ part-none marked = record {
   order = λ j h d r less. absurd (d (marked j h));
 }
 
-pub part-over : {g : Grid} {i k : ℕ} {m : List ℕ} → Part g i k m → getD m i 0 ≢ mark → Part g (i + 1) k m
+pub part-over : {g : Grid} {i k : ℕ} {m : List ℕ} → Part g i k m → getD m i 0 ≢ unnumbered → Part g (i + 1) k m
 part-over {i = i} {m = m} p d = record {
   few = omega (arith, p .few);
   passed = λ j h.

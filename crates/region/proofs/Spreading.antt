@@ -12,7 +12,7 @@ use native.Mathlib.Omega.{arith}
 use lib.ListN.{length, getD, set, length-set}
 use lib.Seq.{getD-set-same, getD-set-other, drop-set-lt}
 use Rattle.region.specs.Grid.{Grid, count, Toward, Neighbour}
-use Rattle.region.specs.Steps.{mark, vacant, Visit, pushed, kept, New, Spread}
+use Rattle.region.specs.Steps.{unnumbered, vacant, Visit, pushed, kept, New, Spread}
 use Rattle.region.proofs.Cells.{stored}
 use Rattle.region.proofs.TallyLaws.{tally-set, tally-some}
 
@@ -32,19 +32,19 @@ spread-none {t = t} room = record {
 
 module _ {g : Grid} {k i d : ℕ} {m w : List ℕ} {t : ℕ} {m′ w′ : List ℕ} {t′ j : ℕ} (s : Spread g k i d m w t m′ w′ t′) (n : Neighbour (g .rows) (g .cols) d i j) where
   -- nothing to number that way
-  idle : (j < count g → getD m′ j 0 ≡ mark → g .colour j ≡ g .colour i → ⊥) → Spread g k i (d + 1) m w t m′ w′ t′
+  idle : (j < count g → getD m′ j 0 ≡ unnumbered → g .colour j ≡ g .colour i → ⊥) → Spread g k i (d + 1) m w t m′ w′ t′
   idle none = record {
     on = s .on;
     cells = s .cells;
     old = s .old;
     new = s .new;
-    reach = λ e h l inside toward shade free.
+    reach = λ e h l inside toward colour free.
         by-cases (decLt e d)
-        (λ below. s .reach e below l inside toward shade free)
+        (λ below. s .reach e below l inside toward colour free)
         (λ last.
         let same : e ≡ d = omega arith in
         let at : l ≡ j = n .only l inside (subst (λ (x : ℕ). Toward (g .cols) x i l) same toward) in
-        none (subst (λ (x : ℕ). x < count g) at inside) (ap (λ (x : ℕ). getD m′ x 0) (sym at) ∙ free) (ap (g .colour) (sym at) ∙ sym shade));
+        none (subst (λ (x : ℕ). x < count g) at inside) (ap (λ (x : ℕ). getD m′ x 0) (sym at) ∙ free) (ap (g .colour) (sym at) ∙ sym colour));
     room = s .room;
     map-length = s .map-length;
     work-length = s .work-length;
@@ -53,18 +53,18 @@ module _ {g : Grid} {k i d : ℕ} {m w : List ℕ} {t : ℕ} {m′ w′ : List �
   }
 
   -- codel j is numbered and queued
-  module _ (fresh : k ≢ mark) (from : i < count g) (long : count g ≤ length m) (wide : count g ≤ length w) (inside : j < count g) (free : getD m′ j 0 ≡ mark) (shade : g .colour j ≡ g .colour i) where
+  module _ (fresh : k ≢ unnumbered) (from : i < count g) (long : count g ≤ length m) (wide : count g ≤ length w) (inside : j < count g) (free : getD m′ j 0 ≡ unnumbered) (colour : g .colour j ≡ g .colour i) where
     here : j < length m′
     here = omega (arith, s .map-length)
 
     -- the queue has room
     there : t′ < count g
-    there = omega (arith, s .room, tally-some mark (count g) m′ j inside here free)
+    there = omega (arith, s .room, tally-some unnumbered (count g) m′ j inside here free)
 
     queue : t′ < length w′
     queue = omega (arith, s .work-length, there)
 
-    was : getD m j 0 ≡ mark
+    was : getD m j 0 ≡ unnumbered
     was = ⊎-elim (λ e. sym e ∙ free) (λ n. n .was) (s .cells j inside)
 
     first : New g k i m t (set m′ j k) (set w′ t′ j) (t′ + 1) j
@@ -72,7 +72,7 @@ module _ {g : Grid} {k i d : ℕ} {m w : List ℕ} {t : ℕ} {m′ w′ : List �
       was = was;
       is = getD-set-same m′ j k 0 here;
       next = record { from = from; to = inside; way = d; toward = n .is inside };
-      shade = sym shade;
+      colour = sym colour;
       at = t′;
       from = s .on;
       until = omega arith;
@@ -84,7 +84,7 @@ module _ {g : Grid} {k i d : ℕ} {m w : List ℕ} {t : ℕ} {m′ w′ : List �
       was = n .was;
       is = getD-set-other m′ j l k 0 other ∙ n .is;
       next = n .next;
-      shade = n .shade;
+      colour = n .colour;
       at = n .at;
       from = n .from;
       until = omega (arith, n .until);
@@ -109,7 +109,7 @@ module _ {g : Grid} {k i d : ℕ} {m w : List ℕ} {t : ℕ} {m′ w′ : List �
         (stored w′ t′ j q queue)
 
     reach : (e : ℕ) → e < d + 1 → (l : ℕ) → l < count g → Toward (g .cols) e i l → g .colour i ≡ g .colour l
-        → getD (set m′ j k) l 0 ≢ mark
+        → getD (set m′ j k) l 0 ≢ unnumbered
     reach e h l within toward same =
         by-cases (ℕ-discrete l j)
         (λ at. rw at (rw (getD-set-same m′ j k 0 here) fresh))
@@ -127,16 +127,16 @@ module _ {g : Grid} {k i d : ℕ} {m w : List ℕ} {t : ℕ} {m′ w′ : List �
       old = λ q h. getD-set-other w′ t′ q j 0 (omega (arith, s .on)) ∙ s .old q h;
       new = new;
       reach = reach;
-      room = omega (arith, s .room, tally-set mark (count g) m′ j k inside here free fresh);
+      room = omega (arith, s .room, tally-set unnumbered (count g) m′ j k inside here free fresh);
       map-length = length-set m′ j k ∙ s .map-length;
       work-length = length-set w′ t′ j ∙ s .work-length;
       map-rest = drop-set-lt (count g) m′ j k inside ∙ s .map-rest;
       work-rest = drop-set-lt (count g) w′ t′ j there ∙ s .work-rest;
     }
 
-pub spread-more : {g : Grid} {k i d : ℕ} {m w : List ℕ} {t : ℕ} {m′ w′ : List ℕ} {t′ j shade : ℕ} {m″ w″ : List ℕ} {t″ : ℕ}
+pub spread-more : {g : Grid} {k i d : ℕ} {m w : List ℕ} {t : ℕ} {m′ w′ : List ℕ} {t′ j colour : ℕ} {m″ w″ : List ℕ} {t″ : ℕ}
     → Spread g k i d m w t m′ w′ t′ → Neighbour (g .rows) (g .cols) d i j
-    → k ≢ mark → i < count g → count g ≤ length m → count g ≤ length w → shade ≡ g .colour i
-    → Visit g shade k j m′ w′ t′ m″ w″ t″ → Spread g k i (d + 1) m w t m″ w″ t″
+    → k ≢ unnumbered → i < count g → count g ≤ length m → count g ≤ length w → colour ≡ g .colour i
+    → Visit g colour k j m′ w′ t′ m″ w″ t″ → Spread g k i (d + 1) m w t m″ w″ t″
 spread-more s n fresh from long wide same (pushed inside free e) = busy s n fresh from long wide inside free (e ∙ same)
 spread-more s n fresh from long wide same (kept none) = idle s n (λ inside free e. none inside free (e ∙ sym same))

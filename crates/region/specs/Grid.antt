@@ -34,7 +34,7 @@ Toward cols (suc (suc (suc zero))) i j = (j / cols + 1 ≡ i / cols) × (j % col
 Toward cols (suc (suc (suc (suc d)))) i j = ⊥
 
 -- i and j are codels of the grid, one step apart
-pub record Next (g : Grid) (i j : ℕ) : Type 0 where
+pub record Adjacent (g : Grid) (i j : ℕ) : Type 0 where
   pub from : i < count g
   pub to : j < count g
   pub way : ℕ

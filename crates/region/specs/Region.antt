@@ -3,13 +3,13 @@ use mathlib.Core.Path.{_≡_}
 use mathlib.Core.List.{List}
 use Prim.Native.Nat.{ℕ, _≤_, _<_}
 use lib.ListN.{length, getD}
-use Rattle.region.specs.Grid.{Grid, count, Next}
+use Rattle.region.specs.Grid.{Grid, count, Adjacent}
 
 -- "A region is a largest set of codels of one colour joined by paths of up, down, left and right codel steps": there is such a
 -- path from i to a codel
 pub data Joined (g : Grid) (i : ℕ) : ℕ → Type 0 where
   here : Joined g i i
-  on : {j k : ℕ} → Joined g i j → Next g j k → g .colour j ≡ g .colour k → Joined g i k
+  on : {j k : ℕ} → Joined g i j → Adjacent g j k → g .colour j ≡ g .colour k → Joined g i k
 
 -- a codel before i has the number r
 abbrev pub Earlier : List ℕ → ℕ → ℕ → Type 0

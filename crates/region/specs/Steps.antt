@@ -8,28 +8,28 @@ use Rattle.picture.specs.declared.shape.Shape.{Shape}
 use Rattle.picture.specs.Picture.{Frames}
 use Rattle.table.specs.Layout.{rowCell, colourField, sizeField, rowField, columnField}
 use Rattle.region.specs.Tally.{tally}
-use Rattle.region.specs.Grid.{Grid, count, Toward, Next}
+use Rattle.region.specs.Grid.{Grid, count, Toward, Adjacent}
 use Rattle.region.specs.Region.{Joined, Earlier}
 
 -- what a codel without a number has in the map: no region's number, since there are at most 65,536 codels
-abbrev pub mark : ℕ
-mark = 65536
+abbrev pub unnumbered : ℕ
+unnumbered = 65536
 
 -- how many of the first n codels have no number
 abbrev pub vacant : ℕ → List ℕ → ℕ
-vacant n m = tally mark n m
+vacant n m = tally unnumbered n m
 
--- codel j is numbered k and put at the queue's tail, where it is inside, has no number and has the colour shade
-pub data Visit (g : Grid) (shade k j : ℕ) (m w : List ℕ) (t : ℕ) : List ℕ → List ℕ → ℕ → Type 0 where
-  pushed : j < count g → getD m j 0 ≡ mark → g .colour j ≡ shade → Visit g shade k j m w t (set m j k) (set w t j) (t + 1)
-  kept : (j < count g → getD m j 0 ≡ mark → g .colour j ≡ shade → ⊥) → Visit g shade k j m w t m w t
+-- codel j is numbered k and put at the queue's tail, where it is inside, has no number and has this colour
+pub data Visit (g : Grid) (colour k j : ℕ) (m w : List ℕ) (t : ℕ) : List ℕ → List ℕ → ℕ → Type 0 where
+  pushed : j < count g → getD m j 0 ≡ unnumbered → g .colour j ≡ colour → Visit g colour k j m w t (set m j k) (set w t j) (t + 1)
+  kept : (j < count g → getD m j 0 ≡ unnumbered → g .colour j ≡ colour → ⊥) → Visit g colour k j m w t m w t
 
 -- a codel j next to i that has got the number k, and stands in the queue from t on
 pub record New (g : Grid) (k i : ℕ) (m : List ℕ) (t : ℕ) (m′ w′ : List ℕ) (t′ j : ℕ) : Type 0 where
-  pub was : getD m j 0 ≡ mark
+  pub was : getD m j 0 ≡ unnumbered
   pub is : getD m′ j 0 ≡ k
-  pub next : Next g i j
-  pub shade : g .colour i ≡ g .colour j
+  pub next : Adjacent g i j
+  pub colour : g .colour i ≡ g .colour j
   pub at : ℕ
   pub from : t ≤ at
   pub until : at < t′
@@ -42,7 +42,7 @@ pub record Spread (g : Grid) (k i d : ℕ) (m w : List ℕ) (t : ℕ) (m′ w′
   pub cells : (j : ℕ) → j < count g → (getD m′ j 0 ≡ getD m j 0) ⊎ New g k i m t m′ w′ t′ j
   pub old : (q : ℕ) → q < t → getD w′ q 0 ≡ getD w q 0
   pub new : (q : ℕ) → t ≤ q → q < t′ → (getD w′ q 0 < count g) × (getD m′ (getD w′ q 0) 0 ≡ k)
-  pub reach : (e : ℕ) → e < d → (j : ℕ) → j < count g → Toward (g .cols) e i j → g .colour i ≡ g .colour j → getD m′ j 0 ≢ mark
+  pub reach : (e : ℕ) → e < d → (j : ℕ) → j < count g → Toward (g .cols) e i j → g .colour i ≡ g .colour j → getD m′ j 0 ≢ unnumbered
   -- each codel is queued once, so the queue never outgrows the codels
   pub room : vacant (count g) m′ + t′ ≤ count g
   pub map-length : length m′ ≡ length m
@@ -53,12 +53,12 @@ pub record Spread (g : Grid) (k i d : ℕ) (m w : List ℕ) (t : ℕ) (m′ w′
 -- m has the numbers of the first k regions, and no number for the other codels; every codel before i has a number
 pub record Part (g : Grid) (i k : ℕ) (m : List ℕ) : Type 0 where
   pub few : k ≤ i
-  pub passed : (j : ℕ) → j < i → getD m j 0 ≢ mark
-  pub below : (j : ℕ) → j < count g → getD m j 0 ≢ mark → getD m j 0 < k
-  pub even : (j l : ℕ) → Next g j l → g .colour j ≡ g .colour l → getD m j 0 ≡ getD m l 0
-  pub one : (j l : ℕ) → j < count g → l < count g → getD m j 0 ≢ mark → getD m j 0 ≡ getD m l 0 → Joined g j l
+  pub passed : (j : ℕ) → j < i → getD m j 0 ≢ unnumbered
+  pub below : (j : ℕ) → j < count g → getD m j 0 ≢ unnumbered → getD m j 0 < k
+  pub even : (j l : ℕ) → Adjacent g j l → g .colour j ≡ g .colour l → getD m j 0 ≡ getD m l 0
+  pub one : (j l : ℕ) → j < count g → l < count g → getD m j 0 ≢ unnumbered → getD m j 0 ≡ getD m l 0 → Joined g j l
   pub used : (r : ℕ) → r < k → Earlier m i r
-  pub order : (j : ℕ) → j < count g → getD m j 0 ≢ mark → (r : ℕ) → r < getD m j 0 → Earlier m j r
+  pub order : (j : ℕ) → j < count g → getD m j 0 ≢ unnumbered → (r : ℕ) → r < getD m j 0 → Earlier m j r
 
 -- what a step of the numbering leaves: the map of the first k regions, with every codel before i numbered, and the rest of
 -- both slices as it was

@@ -7,17 +7,17 @@ ghost use mathlib.Core.Path.{_≡_};
 ghost use Prim.Native.Nat.{_+_, _*_, _≤_, _<_};
 ghost use lib.ListN.{getD};
 ghost use Rattle.region.specs.Grid.{gridAt};
-ghost use Rattle.region.specs.Steps.{mark, vacant, Visit, Spread, Part, Numbered, Room};
+ghost use Rattle.region.specs.Steps.{unnumbered, vacant, Visit, Spread, Part, Numbered, Room};
 
 // What a codel without a number has in the map.
 pub const MARK: u32 = 65536;
 
 // Numbers codel j and puts it at the queue's tail, where it is inside, has no number and has the
-// colour shade. Returns the new tail.
+// this colour. Returns the new tail.
 fn visit(
     colours: &[u8],
     s: Shape,
-    shade: u8,
+    colour: u8,
     number: u32,
     j: usize,
     map: &mut [u32],
@@ -26,7 +26,7 @@ fn visit(
 ) -> usize
     requires { ⌜ Room (now colours) s (now map) (now work) ⌝ }
     requires { ⌜ vacant (s .rows * s .cols) (now map) + tail ≤ s .rows * s .cols ⌝ }
-    ensures { λ r. ⌜ Visit (gridAt (now (colours .entry)) s) shade number j (now (map .entry)) (now (work .entry)) tail (now (map .exit)) (now (work .exit)) r ⌝ }
+    ensures { λ r. ⌜ Visit (gridAt (now (colours .entry)) s) colour number j (now (map .entry)) (now (work .entry)) tail (now (map .exit)) (now (work .exit)) r ⌝ }
 {
     let outside = s.rows * s.cols;
     if outside <= j {
@@ -35,7 +35,7 @@ fn visit(
     if map[j] != MARK {
         return tail;
     }
-    if codel_colour(colours, s, j) != shade {
+    if codel_colour(colours, s, j) != colour {
         return tail;
     }
     map[j] = number;
@@ -56,15 +56,15 @@ fn expand(
     requires { ⌜ Room (now colours) s (now map) (now work) ⌝ }
     requires { ⌜ vacant (s .rows * s .cols) (now map) + tail ≤ s .rows * s .cols ⌝ }
     requires { ⌜ i < s .rows * s .cols ⌝ }
-    requires { ⌜ number < mark ⌝ }
+    requires { ⌜ number < unnumbered ⌝ }
     ensures { λ r. ⌜ Spread (gridAt (now (colours .entry)) s) number i 4 (now (map .entry)) (now (work .entry)) tail (now (map .exit)) (now (work .exit)) r ⌝ }
 {
-    let shade = codel_colour(colours, s, i);
+    let colour = codel_colour(colours, s, i);
     let mut end = tail;
     let mut way = 0;
     while way < 4 {
         let j = neighbour(s, i, way);
-        end = visit(colours, s, shade, number, j, map, work, end);
+        end = visit(colours, s, colour, number, j, map, work, end);
         way += 1;
     }
     end
@@ -83,7 +83,7 @@ pub fn explore_region(
     requires { ⌜ Room (now colours) s (now map) (now work) ⌝ }
     requires { ⌜ Part (gridAt (now colours) s) seed number (now map) ⌝ }
     requires { ⌜ seed < s .rows * s .cols ⌝ }
-    requires { ⌜ getD (now map) seed 0 ≡ mark ⌝ }
+    requires { ⌜ getD (now map) seed 0 ≡ unnumbered ⌝ }
     ensures { λ _. ⌜ Numbered (gridAt (now (colours .entry)) s) (seed + 1) (number + 1) (now (map .entry)) (now (work .entry)) (now (map .exit)) (now (work .exit)) ⌝ }
 {
     map[seed] = number;

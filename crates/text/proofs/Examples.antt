@@ -7,8 +7,8 @@ use Rattle.base.specs.Text.{ascii}
 use Rattle.text.specs.Line.{lineLength}
 use Rattle.text.specs.Range.{within}
 use Rattle.text.specs.Utf8.{scalar, scalars, encode, encodes}
-use Rattle.text.specs.White.{white, trimStart}
-use Rattle.text.specs.Number.{digits, numeral, onward, magnitudeOf, sign, numberOf}
+use Rattle.text.specs.White.{whiteSpace, trimStart}
+use Rattle.text.specs.Number.{digits, numeral, onward, magnitudeOf, sign, parsed}
 use Rattle.text.specs.Input.{charOf, intOf}
 use Rattle.text.specs.Reading.{back, rest, chars, same, valid, given, takeOf}
 use Rattle.text.specs.declared.input.Taken.the-variants.{Push, Skip, BadInput}
@@ -38,52 +38,52 @@ unfolding lineLength
 line = refl
 
 -- a narrow no-break space is white space, a zero width space is none
-narrow : white 0x202F ≡ true
-unfolding white within
+narrow : whiteSpace 0x202F ≡ true
+unfolding whiteSpace within
 narrow = refl
 
-none : white 0x200B ≡ false
-unfolding white within
+none : whiteSpace 0x200B ≡ false
+unfolding whiteSpace within
 none = refl
 
 -- U+3000, `-12`, a carriage return, a newline
 int : intOf (0x3000 ∷ 0x2D ∷ 0x31 ∷ 0x32 ∷ 13 ∷ 10 ∷ []) ≡ Value (negsuc 11)
-unfolding encode encodes white within trimStart digits numeral onward magnitudeOf sign numberOf
+unfolding encode encodes whiteSpace within trimStart digits numeral onward magnitudeOf sign parsed
 int = refl
 
 -- signs and zeros
-plus-five : numberOf (ascii "+5") ≡ Value (pos 5)
-unfolding within digits numeral onward magnitudeOf sign numberOf
+plus-five : parsed (ascii "+5") ≡ Value (pos 5)
+unfolding within digits numeral onward magnitudeOf sign parsed
 plus-five = refl
 
-minus-zero : numberOf (ascii "-0") ≡ Value (pos 0)
-unfolding within digits numeral onward magnitudeOf sign numberOf
+minus-zero : parsed (ascii "-0") ≡ Value (pos 0)
+unfolding within digits numeral onward magnitudeOf sign parsed
 minus-zero = refl
 
-zeros : numberOf (ascii "007") ≡ Value (pos 7)
-unfolding within digits numeral onward magnitudeOf sign numberOf
+zeros : parsed (ascii "007") ≡ Value (pos 7)
+unfolding within digits numeral onward magnitudeOf sign parsed
 zeros = refl
 
-alone : numberOf (ascii "+") ≡ NotANumber
-unfolding within digits numeral onward magnitudeOf sign numberOf
+alone : parsed (ascii "+") ≡ NotANumber
+unfolding within digits numeral onward magnitudeOf sign parsed
 alone = refl
 
-twice : numberOf (ascii "--1") ≡ NotANumber
-unfolding within digits numeral onward magnitudeOf sign numberOf
+twice : parsed (ascii "--1") ≡ NotANumber
+unfolding within digits numeral onward magnitudeOf sign parsed
 twice = refl
 
 -- the ends of i64: -2^63, and 2^63
-least : numberOf (ascii "-9223372036854775808") ≡ Value (negsuc 9223372036854775807)
-unfolding within digits numeral onward magnitudeOf sign numberOf
+least : parsed (ascii "-9223372036854775808") ≡ Value (negsuc 9223372036854775807)
+unfolding within digits numeral onward magnitudeOf sign parsed
 least = refl
 
-past : numberOf (ascii "9223372036854775808") ≡ NotANumber
-unfolding within digits numeral onward magnitudeOf sign numberOf
+past : parsed (ascii "9223372036854775808") ≡ NotANumber
+unfolding within digits numeral onward magnitudeOf sign parsed
 past = refl
 
 -- ` -12`, newline, `7`: the line is taken and -12 pushed. A line with a lone continuation byte is refused
 taken : takeOf intOf (0x20 ∷ 0x2D ∷ 0x31 ∷ 0x32 ∷ 10 ∷ 0x37 ∷ []) 0 ≡ Push (negsuc 11) 5
-unfolding scalar scalars encode encodes white within trimStart digits numeral onward magnitudeOf sign numberOf lineLength back rest chars same valid given takeOf
+unfolding scalar scalars encode encodes whiteSpace within trimStart digits numeral onward magnitudeOf sign parsed lineLength back rest chars same valid given takeOf
 taken = refl
 
 refused : takeOf intOf (0x31 ∷ 0x80 ∷ 10 ∷ []) 0 ≡ BadInput

@@ -15,7 +15,7 @@ use Rattle.base.specs.Numbers.{Numbers, numbers}
 use Rattle.text.specs.Line.{lineLength, lineEnd}
 use Rattle.text.specs.Utf8.{Utf8, Valid, IsChar, Reads, char, bad, past}
 use Rattle.text.specs.Trim.{Trims}
-use Rattle.text.specs.Number.{numberOf}
+use Rattle.text.specs.Number.{parsed}
 use Rattle.text.specs.Input.{charOf, intOf, numbered, pushed, values, Takes, reads, bad as bad-line}
 use Rattle.text.specs.declared.utf8.Decoded.{Decoded}
 use Rattle.text.specs.declared.number.Number.{Number}
@@ -57,8 +57,8 @@ module _ (f : List ℕ → Number) (s : List ℕ) (at e : ℕ) (is : e ≡ lineE
 
 -- ---- the characters cs of a line l
 module _ (l cs : List ℕ) (u : Utf8 l cs) where
-  pub int-of : (t : List ℕ) → Trims l t → (r : Number) → r ≡ numberOf t → intOf cs ≡ r
-  int-of t p r q = ap numberOf (sym (p .text cs u .same)) ∙ sym q
+  pub int-of : (t : List ℕ) → Trims l t → (r : Number) → r ≡ parsed t → intOf cs ≡ r
+  int-of t p r q = ap parsed (sym (p .text cs u .same)) ∙ sym q
 
   pub char-of : (c n : ℕ) → IsChar l 0 c n → charOf cs ≡ Value (pos c)
   unfolding charOf

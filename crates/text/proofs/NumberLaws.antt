@@ -20,7 +20,7 @@ use mir.Syntax.{w64}
 use mir.Val.{toZ}
 use mir.ValLaws.{toZ-pos}
 use Rattle.base.proofs.Tests.{and-both}
-use Rattle.text.specs.Number.{digits, numeral, onward, magnitudeOf, plus, minus, numberOf}
+use Rattle.text.specs.Number.{digits, numeral, onward, magnitudeOf, plus, minus, parsed}
 use Rattle.text.specs.declared.number.Number.the-variants.{NotANumber}
 use Rattle.text.specs.declared.number.Magnitude.the-variants.{Is, Not}
 use Rattle.text.proofs.RangeLaws.{inside, below, above}
@@ -99,22 +99,22 @@ below-zero zero h = absurd (h refl)
 below-zero (suc k) h = ap negsuc (omega arith)
 
 -- a number by its first byte
-pub number-none : (s : List ℕ) → length s ≡ 0 → NotANumber ≡ numberOf s
-unfolding numberOf
+pub number-none : (s : List ℕ) → length s ≡ 0 → NotANumber ≡ parsed s
+unfolding parsed
 number-none [] e = refl
 number-none (b ∷ bs) e = absurd (omega arith)
 
-pub number-minus : (s : List ℕ) → 0 < length s → getD s 0 0 ≡ 0x2D → minus (drop 1 s) ≡ numberOf s
-unfolding numberOf
+pub number-minus : (s : List ℕ) → 0 < length s → getD s 0 0 ≡ 0x2D → minus (drop 1 s) ≡ parsed s
+unfolding parsed
 number-minus [] h e = absurd (omega arith)
 number-minus (b ∷ bs) h e = rw (eq-eqb b 0x2D e)
 
-pub number-plus : (s : List ℕ) → 0 < length s → (getD s 0 0 ≡ 0x2D → ⊥) → getD s 0 0 ≡ 0x2B → plus (drop 1 s) ≡ numberOf s
-unfolding numberOf
+pub number-plus : (s : List ℕ) → 0 < length s → (getD s 0 0 ≡ 0x2D → ⊥) → getD s 0 0 ≡ 0x2B → plus (drop 1 s) ≡ parsed s
+unfolding parsed
 number-plus [] h n e = absurd (omega arith)
 number-plus (b ∷ bs) h n e = rw (ne-eqb b 0x2D n, eq-eqb b 0x2B e)
 
-pub number-bare : (s : List ℕ) → 0 < length s → (getD s 0 0 ≡ 0x2D → ⊥) → (getD s 0 0 ≡ 0x2B → ⊥) → plus s ≡ numberOf s
-unfolding numberOf
+pub number-bare : (s : List ℕ) → 0 < length s → (getD s 0 0 ≡ 0x2D → ⊥) → (getD s 0 0 ≡ 0x2B → ⊥) → plus s ≡ parsed s
+unfolding parsed
 number-bare [] h n m = absurd (omega arith)
 number-bare (b ∷ bs) h n m = rw (ne-eqb b 0x2D n, ne-eqb b 0x2B m)

@@ -17,7 +17,7 @@ use lib.ListN.{length, getD, take, drop, length-append, drop-of-length-le, take-
 use lib.Seq.{length-take-le, take-take, take-at, drop-at, getD-take, getD-append-add}
 use Rattle.base.proofs.Tests.{by-size}
 use Rattle.text.specs.Utf8.{Scalar, Scalars, encode, encodes, bytes2, bytes3, bytes4, IsTail, Utf8, Valid, IsChar}
-use Rattle.text.specs.White.{white, trimStart, trimEnd}
+use Rattle.text.specs.White.{whiteSpace, trimStart, trimEnd}
 use Rattle.text.specs.Trim.{LastStart, Front, Back, Trims}
 use Rattle.text.proofs.Utf8Laws.{scalars-none, scalars-more, scalars-both, prefix-char, utf8-unique, utf8-none, head-is, Form, form, form1, form2, form3, form4, encode-some}
 use Rattle.text.proofs.ValidLaws.{char-at, bad-never}
@@ -30,7 +30,7 @@ abbrev pub FrontIs : List ℕ → ℕ → Type 0
 FrontIs s i = (cs : List ℕ) → Utf8 s cs → Utf8 (drop i s) (trimStart cs)
 
 module _ (s : List ℕ) (at : ℕ) (inv : FrontInv s at) where
-  pub front-more : (c n : ℕ) → IsChar s at c n → white c ≡ true → FrontInv s n
+  pub front-more : (c n : ℕ) → IsChar s at c n → whiteSpace c ≡ true → FrontInv s n
   unfolding trimStart
   front-more c n r w cs u =
       let v = inv cs u in
@@ -38,7 +38,7 @@ module _ (s : List ℕ) (at : ℕ) (inv : FrontInv s at) where
       let f : trimStart (c ∷ k .0) ≡ trimStart (k .0) = rw w in
       (k .0, k .2, v .2 ∙ ap trimStart (k .1) ∙ f)
 
-  pub front-stop : (c n : ℕ) → IsChar s at c n → white c ≡ false → FrontIs s at
+  pub front-stop : (c n : ℕ) → IsChar s at c n → whiteSpace c ≡ false → FrontIs s at
   unfolding trimStart
   front-stop c n r w cs u =
       let v = inv cs u in
@@ -183,11 +183,11 @@ unfolding encodes
 last-is s end k h st [] u = absurd (omega (arith, st .before, length-take-le end s h, ap length (u .same)))
 last-is s end k h st (c ∷ cs) u = last-of s end k h st (c ∷ cs) u (snoc c cs)
 
-trimEnd-white : (bs : List ℕ) (d : ℕ) → white d ≡ true → trimEnd (bs ++ (d ∷ [])) ≡ trimEnd bs
+trimEnd-white : (bs : List ℕ) (d : ℕ) → whiteSpace d ≡ true → trimEnd (bs ++ (d ∷ [])) ≡ trimEnd bs
 unfolding trimStart
 trimEnd-white bs d w = rw (reverse-append, w)
 
-trimEnd-other : (bs : List ℕ) (d : ℕ) → white d ≡ false → trimEnd (bs ++ (d ∷ [])) ≡ bs ++ (d ∷ [])
+trimEnd-other : (bs : List ℕ) (d : ℕ) → whiteSpace d ≡ false → trimEnd (bs ++ (d ∷ [])) ≡ bs ++ (d ∷ [])
 unfolding trimStart
 trimEnd-other bs d w =
     let e : trimStart (reverse (bs ++ (d ∷ []))) ≡ reverse (bs ++ (d ∷ [])) = rw (reverse-append, w) in
@@ -200,19 +200,19 @@ abbrev pub BackIs : List ℕ → ℕ → Type 0
 BackIs s end = (cs : List ℕ) → Utf8 s cs → Utf8 (take end s) (trimEnd cs)
 
 module _ (s : List ℕ) (end k : ℕ) (h : end ≤ length s) (st : LastStart s end k) (inv : BackInv s end) where
-  pub back-more : (c n : ℕ) → IsChar s k c n → white c ≡ true → BackInv s k
+  pub back-more : (c n : ℕ) → IsChar s k c n → whiteSpace c ≡ true → BackInv s k
   back-more c n r w cs u =
       let v = inv cs u in
       let x = last-is s end k h st (v .0) (v .1) in
       let e : c ≡ x .last = prefix-char c (x .last) (drop n s) (drop end s) (sym (r .bytes) ∙ x .bytes) in
-      (x .front, x .utf8, v .2 ∙ ap trimEnd (x .text) ∙ trimEnd-white (x .front) (x .last) (ap white (sym e) ∙ w))
+      (x .front, x .utf8, v .2 ∙ ap trimEnd (x .text) ∙ trimEnd-white (x .front) (x .last) (ap whiteSpace (sym e) ∙ w))
 
-  pub back-stop : (c n : ℕ) → IsChar s k c n → white c ≡ false → BackIs s end
+  pub back-stop : (c n : ℕ) → IsChar s k c n → whiteSpace c ≡ false → BackIs s end
   back-stop c n r w cs u =
       let v = inv cs u in
       let x = last-is s end k h st (v .0) (v .1) in
       let e : c ≡ x .last = prefix-char c (x .last) (drop n s) (drop end s) (sym (r .bytes) ∙ x .bytes) in
-      let q : trimEnd cs ≡ v .0 = v .2 ∙ ap trimEnd (x .text) ∙ trimEnd-other (x .front) (x .last) (ap white (sym e) ∙ w) ∙ sym (x .text) in
+      let q : trimEnd cs ≡ v .0 = v .2 ∙ ap trimEnd (x .text) ∙ trimEnd-other (x .front) (x .last) (ap whiteSpace (sym e) ∙ w) ∙ sym (x .text) in
       subst (λ (ds : List ℕ). Utf8 (take end s) ds) (sym q) (v .1)
 
   pub back-bad : ((c n : ℕ) → IsChar s k c n → ⊥) → BackIs s end

@@ -7,7 +7,7 @@ use Rattle.base.specs.Numbers.{Numbers, numbers}
 use Rattle.text.specs.Line.{lineAt, lineEnd}
 use Rattle.text.specs.Utf8.{encodes, Utf8, Valid}
 use Rattle.text.specs.White.{trimmed}
-use Rattle.text.specs.Number.{numberOf}
+use Rattle.text.specs.Number.{parsed}
 use Rattle.text.specs.declared.number.Number.{Number}
 use Rattle.text.specs.declared.number.Number.the-variants.{Value, NotANumber}
 use Rattle.text.specs.declared.input.Taken.{Taken}
@@ -20,7 +20,7 @@ charOf (c ∷ cs) = Value (pos c)
 
 -- "IntIn trims and reads a sign or none and one or more ASCII digits in i64"
 abbrev pub intOf : List ℕ → Number
-intOf cs = numberOf (encodes (trimmed cs))
+intOf cs = parsed (encodes (trimmed cs))
 
 -- the answers in document 01's numbers: 0 with the place after the line, or 6 BadInput
 unfoldable pub numbered : Taken → Numbers

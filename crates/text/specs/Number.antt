@@ -42,6 +42,6 @@ abbrev pub minus : List ℕ → Number
 minus bs = sign (λ n. negℤ (pos n)) (magnitudeOf (2 ^ 63) bs)
 
 -- "a sign or none": 0x2D is `-`, 0x2B is `+`
-unfoldable pub numberOf : List ℕ → Number
-numberOf [] = NotANumber
-numberOf (b ∷ bs) = cond (eqb b 0x2D) (minus bs) (cond (eqb b 0x2B) (plus bs) (plus (b ∷ bs)))
+unfoldable pub parsed : List ℕ → Number
+parsed [] = NotANumber
+parsed (b ∷ bs) = cond (eqb b 0x2D) (minus bs) (cond (eqb b 0x2B) (plus bs) (plus (b ∷ bs)))

@@ -6,15 +6,15 @@ use lib.Dec.{eqb}
 use Rattle.text.specs.Range.{within}
 
 -- "White space is U+0009 to U+000D, U+0020, U+0085, U+00A0, U+1680, U+2000 to U+200A, U+2028, U+2029, U+202F, U+205F, U+3000."
-unfoldable pub white : ℕ → Bool
-white c =
+unfoldable pub whiteSpace : ℕ → Bool
+whiteSpace c =
     within 0x9 0xD c || eqb c 0x20 || eqb c 0x85 || eqb c 0xA0 || eqb c 0x1680 || within 0x2000 0x200A c
     || within 0x2028 0x2029 c || eqb c 0x202F || eqb c 0x205F || eqb c 0x3000
 
 -- the text from its first character that is no white space
 unfoldable pub trimStart : List ℕ → List ℕ
 trimStart [] = []
-trimStart (c ∷ cs) = cond (white c) (trimStart cs) (c ∷ cs)
+trimStart (c ∷ cs) = cond (whiteSpace c) (trimStart cs) (c ∷ cs)
 
 -- the text to its last character that is no white space
 abbrev pub trimEnd : List ℕ → List ℕ

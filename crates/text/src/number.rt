@@ -2,7 +2,7 @@
 use crate::utf8::wide;
 ghost use mathlib.Core.Path.{_≡_};
 ghost use Prim.Native.Nat.{_^_, _≤_};
-ghost use Rattle.text.specs.Number.{magnitudeOf, plus, minus, numberOf};
+ghost use Rattle.text.specs.Number.{magnitudeOf, plus, minus, parsed};
 
 // The value of digits without a sign.
 enum Magnitude {
@@ -69,7 +69,7 @@ fn negative(s: &[u8]) -> Number
 
 // A number in decimal.
 pub fn parse(line: &[u8]) -> Number
-    ensures { λ r. ⌜ r ≡ numberOf (now (line .entry)) ⌝ }
+    ensures { λ r. ⌜ r ≡ parsed (now (line .entry)) ⌝ }
 {
     if line.len() == 0 {
         return Number::NotANumber;

@@ -8,11 +8,11 @@ ghost use mathlib.Core.Path.{_≡_};
 ghost use Prim.Native.Nat.{_<_, _≤_};
 ghost use lib.ListN.{length};
 ghost use Rattle.text.specs.Trim.{Front, Back, LastStart, Trims};
-ghost use Rattle.text.specs.White.{white};
+ghost use Rattle.text.specs.White.{whiteSpace};
 
 // "White space is U+0009 to U+000D, U+0020, U+0085, U+00A0, U+1680, U+2000 to U+200A, U+2028, U+2029, U+202F, U+205F, U+3000."
 pub fn is_white(cp: u32) -> bool
-    ensures { λ r. ⌜ r ≡ white cp ⌝ }
+    ensures { λ r. ⌜ r ≡ whiteSpace cp ⌝ }
 {
     match cp {
         0x09..=0x0D

@@ -2,7 +2,7 @@
 use native.Mathlib.Omega.{arith}
 use borrow.Author.Needs.{needs}
 use denote.Ref.{now}
-use Rattle.machine.specs.Held.{lent}
+use Rattle.machine.specs.Held.{slices}
 use Rattle.interpreter.proofs.Stepping.{stands-in, moved, halted}
 use Rattle.interpreter.proofs.go_through.Statement.{statement}
 use Rattle.interpreter.proofs.go_through.Tie as tie
@@ -79,8 +79,8 @@ returns c =
     let the-row-cell = c .before .before .before .before .before .before .before .before .before .before .before .before .before .before .before .before .before .before .before .before .row-cell in
     let the-pre = c .before .before .before .before .before .before .before .before .before .before .before .before .before .before .before .before .before .before .before .before .before .before .before .before .before .pre in
     λ exits.
-    let l = lent (now (the-args .stack)) (now (the-args .kinds)) (now (the-args .values)) in
-    let l′ = lent (the-exec .last .1 .1 .1 .1 .0) (the-exec .last .1 .1 .1 .1 .1 .0) (the-exec .last .1 .1 .1 .1 .1 .1 .0) in
+    let l = slices (now (the-args .stack)) (now (the-args .kinds)) (now (the-args .values)) in
+    let l′ = slices (the-exec .last .1 .1 .1 .1 .0) (the-exec .last .1 .1 .1 .1 .1 .0) (the-exec .last .1 .1 .1 .1 .1 .1 .0) in
     rw (the-target-of .ensures)
     (moved (now (the-args .rows)) exits (the-args .abstract-mode) (now (the-args .input)) (the-args .n) l (the-args .at) (the-args .w) l′ (the-next .given .0 .0)
     (rw (
@@ -114,8 +114,8 @@ returns-2 c =
     let the-state-of = c .before .before .before .before .before .before .before .before .before .before .before .before .before .before .before .state-of in
     let the-row-cell = c .before .before .before .before .before .before .before .before .before .before .before .before .before .before .before .before .before .before .before .row-cell in
     λ exits.
-    let l = lent (now (the-args .stack)) (now (the-args .kinds)) (now (the-args .values)) in
-    let l′ = lent (the-exec .last .1 .1 .1 .1 .0) (the-exec .last .1 .1 .1 .1 .1 .0) (the-exec .last .1 .1 .1 .1 .1 .1 .0) in
+    let l = slices (now (the-args .stack)) (now (the-args .kinds)) (now (the-args .values)) in
+    let l′ = slices (the-exec .last .1 .1 .1 .1 .0) (the-exec .last .1 .1 .1 .1 .1 .0) (the-exec .last .1 .1 .1 .1 .1 .1 .0) in
     halted (now (the-args .rows)) exits (the-args .abstract-mode) (now (the-args .input)) (the-args .n) l (the-args .at) (the-args .w) l′ (c .before .stop .given .0 .0)
     (rw (
       the-numbered .ensures,

@@ -11,7 +11,7 @@ use lib.Dec.{eqb}
 use lib.ListN.{getD}
 use denote.Ref.{now}
 use Rattle.flow.proofs.Order.{valid-attempt}
-use Rattle.flow.specs.Pointer.{numberOf, attemptOf}
+use Rattle.flow.specs.Pointer.{stateNumber, attemptOf}
 use Rattle.flow.specs.declared.PointerState.{PointerState}
 use Rattle.interpreter.specs.Table.{tried, openFrom, exitOf}
 use Rattle.table.specs.Layout.{exitCell}
@@ -47,9 +47,9 @@ passed e r p k h n = sym (open-step e r p k h ∙ rw (eq-eqb (tried e r p k) 0 n
 
 -- the number of the state tried
 tries : (c : tie.After-number Inv-loop μ-loop)
-    → c .number .result ≡ numberOf
+    → c .number .result ≡ stateNumber
     (attemptOf (c .before .before .before .before .before .args .p) (c .before .before .before .loop .k))
-tries c = c .number .ensures ∙ ap numberOf (c .before .attempt .ensures)
+tries c = c .number .ensures ∙ ap stateNumber (c .before .attempt .ensures)
 
 below : (c : tie.After-number Inv-loop μ-loop) → c .number .result < 8
 below c =

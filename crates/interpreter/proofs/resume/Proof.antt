@@ -4,15 +4,15 @@ use Prim.Native.Nat.{_-_}
 use native.Mathlib.Omega.{arith}
 use borrow.Author.Needs.{needs}
 use denote.Ref.{now}
-use Rattle.machine.specs.Held.{lent}
-use Rattle.interpreter.specs.Placed.{Leaves}
+use Rattle.machine.specs.Held.{slices}
+use Rattle.interpreter.specs.Placed.{After}
 use Rattle.interpreter.proofs.Running.{Along, along-start, along-next, ends-halted, ends-limit}
 use Rattle.interpreter.proofs.resume.Statement.{statement}
 use Rattle.interpreter.proofs.resume.Tie as tie
 
 abbrev Inv-loop : tie.InvT-loop
 Inv-loop n rows exits limit abstract-mode input stack₀ kinds₀ values₀ at₀ stack kinds values at =
-    Along n rows exits limit abstract-mode input (lent stack₀ kinds₀ values₀) at₀ (lent stack kinds values) at
+    Along n rows exits limit abstract-mode input (slices stack₀ kinds₀ values₀) at₀ (slices stack kinds values) at
 
 abbrev μ-loop : tie.MeasureT-loop
 μ-loop n rows exits limit abstract-mode input stack₀ kinds₀ values₀ at₀ stack kinds values at = limit - at .steps
@@ -21,7 +21,7 @@ loop-holds : tie.Need-loop-holds Inv-loop μ-loop
 loop-holds c =
     let a = c .before .before .before .before .args in
     along-start (a .n) (now (a .rows)) (now (a .exits)) (a .limit) (a .abstract-mode) (now (a .input))
-    (lent (now (a .stack)) (now (a .kinds)) (now (a .values))) (a .from) (c .before .before .before .before .pre .1)
+    (slices (now (a .stack)) (now (a .kinds)) (now (a .values))) (a .from) (c .before .before .before .before .pre .1)
 
 step-requires : tie.Need-step-requires Inv-loop μ-loop
 step-requires c κs =
@@ -32,7 +32,7 @@ enum-known-next : tie.Need-enum-known-next Inv-loop μ-loop
 enum-known-next c = search needs
 
 loop-less : tie.Need-loop-less Inv-loop μ-loop
-unfolding Leaves
+unfolding After
 loop-less c =
     let the-step = c .before .before .before .before .before .before .before .step in
     let the-if1 = c .before .before .before .before .before .before .before .before .before .before .before .if1 in
@@ -43,7 +43,7 @@ loop-again c =
     let a = c .before .before .before .before .before .before .before .before .before .before .before .before .before .before .before .before .before .before .args in
     let x = c .before .before .before .before .before .before .before .step in
     along-next (a .n) (now (a .rows)) (now (a .exits)) (a .limit) (a .abstract-mode) (now (a .input))
-    (lent (now (a .stack)) (now (a .kinds)) (now (a .values))) (a .from)
+    (slices (now (a .stack)) (now (a .kinds)) (now (a .values))) (a .from)
     (c .before .before .before .before .before .before .before .before .before .before .before .before .before .loop .inv)
     (c .before .before .before .before .before .before .before .before .before .before .before .if1 .taken)
     (rw (c .before .next .given .1) at (x .ensures))
@@ -72,7 +72,7 @@ returns c =
     let a = c .before .before .before .before .before .before .before .before .before .before .before .before .before .before .before .before .before .before .args in
     let x = c .before .before .before .before .before .before .before .step in
     ends-halted (a .n) (now (a .rows)) (now (a .exits)) (a .limit) (a .abstract-mode) (now (a .input))
-    (lent (now (a .stack)) (now (a .kinds)) (now (a .values))) (a .from)
+    (slices (now (a .stack)) (now (a .kinds)) (now (a .values))) (a .from)
     (c .before .before .before .before .before .before .before .before .before .before .before .before .before .loop .inv)
     (c .before .stop .given .0 .0)
     (c .before .before .before .before .before .before .before .before .before .before .before .if1 .taken)
@@ -91,7 +91,7 @@ returns-2 : tie.Need-returns-2 Inv-loop μ-loop
 returns-2 c =
     let a = c .before .before .before .before .before .before .before .args in
     ends-limit (a .n) (now (a .rows)) (now (a .exits)) (a .limit) (a .abstract-mode) (now (a .input))
-    (lent (now (a .stack)) (now (a .kinds)) (now (a .values))) (a .from) (c .before .before .loop .inv) (c .if1 .left)
+    (slices (now (a .stack)) (now (a .kinds)) (now (a .values))) (a .from) (c .before .before .loop .inv) (c .if1 .left)
 
 pub resume-spec : {M : Type 1} → statement M
 resume-spec =

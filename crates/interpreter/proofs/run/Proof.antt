@@ -3,7 +3,7 @@ use mathlib.Core.Path.{refl, sym, _∙_}
 use borrow.Author.Tests.{not-true, not-false}
 use borrow.Author.Needs.{needs}
 use denote.Ref.{now}
-use Rattle.machine.specs.Held.{lent}
+use Rattle.machine.specs.Held.{slices}
 use Rattle.interpreter.specs.Outcome.{jobOf}
 use Rattle.interpreter.specs.Run.{start, runOf}
 use Rattle.interpreter.proofs.Settled.{settled}
@@ -41,8 +41,8 @@ returns-2 c =
     let the-run-valid = c .before .before .before .before .run-valid in
     let the-valid = c .before .before .before .before .before .before .before .before .before .valid in
     let the-if1 = c .before .before .before .before .before .before .before .before .if1 in
-    let l = lent (now (the-args .stack)) (now (the-args .kinds)) (now (the-args .values)) in
-    let l′ = lent (the-run-valid .last .1 .1 .1 .1 .1 .1 .0) (the-run-valid .last .1 .1 .1 .1 .1 .1 .1 .0) (the-run-valid .last .1 .1 .1 .1 .1 .1 .1 .1 .0) in
+    let l = slices (now (the-args .stack)) (now (the-args .kinds)) (now (the-args .values)) in
+    let l′ = slices (the-run-valid .last .1 .1 .1 .1 .1 .1 .0) (the-run-valid .last .1 .1 .1 .1 .1 .1 .1 .0) (the-run-valid .last .1 .1 .1 .1 .1 .1 .1 .1 .0) in
     let right = sym (the-valid .ensures) ∙ not-false (the-valid .result) (the-if1 .left) in (
       rw right
           (settled (the-args .n) (runOf (jobOf (now (the-args .rows)) (now (the-args .exits)) (the-args .abstract-mode) (now (the-args .input)) l) (the-args .limit) start) l′ l (the-run-valid .result)

@@ -4,7 +4,7 @@ use lib.IntN.{pos}
 use denote.Ref.{now}
 use Rattle.stack.specs.Stack.{stackOf}
 use Rattle.machine.specs.Output.{outsOf}
-use Rattle.machine.specs.Held.{lent}
+use Rattle.machine.specs.Held.{slices}
 use Rattle.interpreter.specs.Run.{start}
 use Rattle.interpreter.proofs.Settled.{from-start, placed-start}
 use Rattle.interpreter.proofs.Clearing.{cleared}
@@ -50,9 +50,9 @@ returns c =
     let the-fill-u8 = c .before .before .before .before .before .before .before .before .before .before .before .before .before .fill-u8 in
     let the-fill-i642 = c .before .before .before .before .before .before .before .before .before .fill-i642 in
     let the-resume = c .before .before .before .before .resume in
-    let l = lent (now (the-args .stack)) (now (the-args .kinds)) (now (the-args .values)) in
-    let clean = lent (the-fill-i64 .last .0) (the-fill-u8 .last .0) (the-fill-i642 .last .0) in
-    let l′ = lent (the-resume .last .1 .1 .1 .1 .1 .1 .0) (the-resume .last .1 .1 .1 .1 .1 .1 .1 .0) (the-resume .last .1 .1 .1 .1 .1 .1 .1 .1 .0) in
+    let l = slices (now (the-args .stack)) (now (the-args .kinds)) (now (the-args .values)) in
+    let clean = slices (the-fill-i64 .last .0) (the-fill-u8 .last .0) (the-fill-i642 .last .0) in
+    let l′ = slices (the-resume .last .1 .1 .1 .1 .1 .1 .0) (the-resume .last .1 .1 .1 .1 .1 .1 .1 .0) (the-resume .last .1 .1 .1 .1 .1 .1 .1 .1 .0) in
     from-start (the-args .n) (now (the-args .rows)) (now (the-args .exits)) (the-args .abstract-mode) (now (the-args .input)) (the-args .limit) start clean l l′ (the-resume .result)
     (record { stack = the-fill-i64 .kept .0; kinds = the-fill-u8 .kept .0; values = the-fill-i642 .kept .0 }) (the-resume .ensures)
 

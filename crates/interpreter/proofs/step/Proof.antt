@@ -2,7 +2,7 @@
 use native.Mathlib.Omega.{arith}
 use borrow.Author.Needs.{needs}
 use denote.Ref.{now}
-use Rattle.machine.specs.Held.{lent}
+use Rattle.machine.specs.Held.{slices}
 use Rattle.interpreter.proofs.Stepping.{needs-input, completed, taken, inside-exit}
 use Rattle.interpreter.proofs.step.Statement.{statement}
 use Rattle.interpreter.proofs.step.Tie as tie
@@ -11,7 +11,7 @@ returns : tie.Need-returns
 returns c =
     let a = c .before .before .before .before .before .before .args in
     needs-input (now (a .rows)) (now (a .exits)) (a .abstract-mode) (now (a .input)) (a .n)
-    (lent (now (a .stack)) (now (a .kinds)) (now (a .values))) (a .at) (c .if1 .taken)
+    (slices (now (a .stack)) (now (a .kinds)) (now (a .values))) (a .at) (c .if1 .taken)
 
 open-exit-requires : tie.Need-open-exit-requires
 open-exit-requires c κs = search needs
@@ -21,7 +21,7 @@ returns-2 c =
     let a = c .before .before .before .before .before .before .before .before .before .args in
     let o = c .before .open-exit in
     completed (now (a .rows)) (now (a .exits)) (a .abstract-mode) (now (a .input)) (a .n)
-    (lent (now (a .stack)) (now (a .kinds)) (now (a .values))) (a .at) (c .before .before .before .if1 .left) (o .result)
+    (slices (now (a .stack)) (now (a .kinds)) (now (a .values))) (a .at) (c .before .before .before .if1 .left) (o .result)
     (o .ensures) (c .if2 .taken)
 
 go-through-requires : tie.Need-go-through-requires
@@ -56,8 +56,8 @@ returns-3 c =
     let the-if1 = c .before .before .before .before .before .before .before .before .before .before .before .if1 in
     let the-open-exit = c .before .before .before .before .before .before .before .before .before .open-exit in
     let the-if2 = c .before .before .before .before .before .before .before .before .if2 in
-    let l = lent (now (the-args .stack)) (now (the-args .kinds)) (now (the-args .values)) in
-    let l′ = lent (the-go-through .last .1 .1 .1 .1 .0) (the-go-through .last .1 .1 .1 .1 .1 .0) (the-go-through .last .1 .1 .1 .1 .1 .1 .0) in
+    let l = slices (now (the-args .stack)) (now (the-args .kinds)) (now (the-args .values)) in
+    let l′ = slices (the-go-through .last .1 .1 .1 .1 .0) (the-go-through .last .1 .1 .1 .1 .1 .0) (the-go-through .last .1 .1 .1 .1 .1 .1 .0) in
     taken (now (the-args .rows)) (now (the-args .exits)) (the-args .abstract-mode) (now (the-args .input)) (the-args .n) l (the-args .at) (the-if1 .left) (the-open-exit .result) (the-open-exit .ensures) l′
     (the-go-through .result) (the-if2 .left) (the-go-through .ensures (now (the-args .exits)))
 

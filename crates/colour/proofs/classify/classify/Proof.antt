@@ -6,7 +6,7 @@ use native.Mathlib.Omega.{arith}
 use types.Run.{miss}
 use lib.ListN.{length}
 use Rattle.base.specs.Lent.{lent}
-use Rattle.colour.specs.Classify.{shades}
+use Rattle.colour.specs.Classify.{coloursUnder}
 use Rattle.base.proofs.Sides.{area}
 use Rattle.colour.proofs.ClassifyLaws.{Accepted, accepted, kept}
 use borrow.Author.Needs.{needs}
@@ -48,7 +48,7 @@ returns-2 c =
       answers = c .before .check .ensures;
       leaves =
           sym
-          (kept (c .before .check .result) (lent (shades (a .pixels .now) (a .setting)) (a .colours .now)) (a .colours .now)
+          (kept (c .before .check .result) (lent (coloursUnder (a .pixels .now) (a .setting)) (a .colours .now)) (a .colours .now)
           (λ e. miss (1 ∷ 2 ∷ 3 ∷ 4 ∷ 5 ∷ []) 0 tt (rw e at (c .match .keys2))));
     }
 

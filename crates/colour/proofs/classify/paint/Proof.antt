@@ -6,7 +6,7 @@ use Prim.Native.Nat.{ℕ, _≤_, _-_}
 use native.Mathlib.Omega.{arith}
 use lib.ListN.{length, take, drop, set, length-set, length-map}
 use Rattle.colour.specs.declared.palette.Found.the-variants.{Unknown}
-use Rattle.colour.specs.Classify.{found, shade, shades}
+use Rattle.colour.specs.Classify.{found, colourUnder, coloursUnder}
 use Rattle.base.proofs.LentLaws.{write-turn, length-written, all-written, map-at}
 use Rattle.colour.proofs.ClassifyLaws.{length-found}
 use Rattle.colour.proofs.classify.paint.Statement.{statement}
@@ -14,7 +14,7 @@ use Rattle.colour.proofs.classify.paint.Tie as tie
 
 abbrev Inv-loop : tie.InvT-loop
 Inv-loop pixels n setting colours₀ i₀ colours i =
-    (i ≤ n) × ((length colours ≡ length colours₀) × (colours ≡ take i (map (shade setting) (found pixels)) ++ drop i colours₀))
+    (i ≤ n) × ((length colours ≡ length colours₀) × (colours ≡ take i (map (colourUnder setting) (found pixels)) ++ drop i colours₀))
 
 abbrev μ-loop : tie.MeasureT-loop
 μ-loop pixels n setting colours₀ i₀ colours i = n - i
@@ -25,8 +25,8 @@ loop-holds c = (omega arith, (refl, refl))
 found-at-requires : tie.Need-found-at-requires Inv-loop μ-loop
 found-at-requires c κs = omega arith
 
-shade-of-requires : tie.Need-shade-of-requires Inv-loop μ-loop
-shade-of-requires c κs = tt
+colour-under-requires : tie.Need-colour-under-requires Inv-loop μ-loop
+colour-under-requires c κs = tt
 
 slice-write-colours : tie.Need-slice-write-colours Inv-loop μ-loop
 slice-write-colours c = omega arith
@@ -42,17 +42,17 @@ loop-again c =
     let s = c .before .before .before .before .before .before in
     let l = c .before .before .before .loop in
     let fs = found (s .args .pixels .now) in
-    let w = map (shade (s .args .setting)) fs in
+    let w = map (colourUnder (s .args .setting)) fs in
     let n : length fs ≡ s .args .n = length-found (s .args .pixels .now) (s .args .n) (s .pre .0) in
-    let m : length w ≡ length fs = length-map fs (shade (s .args .setting)) in (
+    let m : length w ≡ length fs = length-map fs (colourUnder (s .args .setting)) in (
       omega arith,
       (
         simp length-set (l .inv .1 .0),
-        ap (λ (t : List ℕ). set t (l .i) (c .shade-of .result)) (l .inv .1 .1)
-            ∙ write-turn w (s .args .colours .now) (l .i) 0 (omega arith) (omega arith) (c .shade-of .result)
-            (c .shade-of .ensures
-            ∙ ap (shade (s .args .setting)) (c .before .found-at .ensures)
-            ∙ sym (map-at (shade (s .args .setting)) fs (l .i) Unknown 0 (omega arith))),
+        ap (λ (t : List ℕ). set t (l .i) (c .colour-under .result)) (l .inv .1 .1)
+            ∙ write-turn w (s .args .colours .now) (l .i) 0 (omega arith) (omega arith) (c .colour-under .result)
+            (c .colour-under .ensures
+            ∙ ap (colourUnder (s .args .setting)) (c .before .found-at .ensures)
+            ∙ sym (map-at (colourUnder (s .args .setting)) fs (l .i) Unknown 0 (omega arith))),
       ),
     )
 
@@ -60,15 +60,15 @@ same-length : tie.Need-same-length Inv-loop μ-loop
 same-length c = c .before .loop .inv .1 .0
 
 returns : tie.Need-returns Inv-loop μ-loop
-unfolding shades
+unfolding coloursUnder
 returns c =
     let s = c .before .before .before .before in
     let l = c .before .loop in
     let p = s .args .pixels .now in
     let fs = found p in
-    let w = map (shade (s .args .setting)) fs in
+    let w = map (colourUnder (s .args .setting)) fs in
     let n : length fs ≡ s .args .n = length-found p (s .args .n) (s .pre .0) in
-    let m : length w ≡ length fs = length-map fs (shade (s .args .setting)) in
+    let m : length w ≡ length fs = length-map fs (colourUnder (s .args .setting)) in
     l .inv .1 .1 ∙ all-written w (s .args .colours .now) (l .i) (omega arith)
 
 pub paint-spec : {M : Type 1} → statement M
@@ -79,7 +79,7 @@ paint-spec =
     μ-loop
     loop-holds
     found-at-requires
-    shade-of-requires
+    colour-under-requires
     slice-write-colours
     add-i
     loop-less

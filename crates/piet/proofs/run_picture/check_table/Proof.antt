@@ -8,19 +8,19 @@ use native.Mathlib.Omega.{arith}
 use lib.ListN.{length}
 use Rattle.base.proofs.Sides.{side}
 use Rattle.picture.specs.Picture.{Picture, picture}
-use Rattle.colour.specs.Classify.{shades}
+use Rattle.colour.specs.Classify.{coloursUnder}
 use Rattle.cfg.specs.Build.{short}
 use Rattle.cfg.proofs.Refusing.{on-codel, on-grid, on-white, on-room, on-none, area-pos}
-use Rattle.piet.proofs.Seeing.{length-shades, legal-shades}
+use Rattle.piet.proofs.Seeing.{length-under, legal-under}
 use borrow.Author.Needs.{needs}
 use Rattle.piet.proofs.run_picture.check_table.Statement.{statement}
 use Rattle.piet.proofs.run_picture.check_table.Tie as tie
 
 abbrev drawnFrom : (c : tie.Start) → Picture
-drawnFrom c = picture (c .args .height) (c .args .width) (c .args .codel) (shades (c .args .pixels .now) (c .args .setting))
+drawnFrom c = picture (c .args .height) (c .args .width) (c .args .codel) (coloursUnder (c .args .pixels .now) (c .args .setting))
 
-one-each : (c : tie.Start) → length (shades (c .args .pixels .now) (c .args .setting)) ≡ c .args .height * c .args .width
-one-each c = length-shades (c .args .pixels .now) (c .args .setting) (c .args .height * c .args .width) (c .pre .1)
+one-each : (c : tie.Start) → length (coloursUnder (c .args .pixels .now) (c .args .setting)) ≡ c .args .height * c .args .width
+one-each c = length-under (c .args .pixels .now) (c .args .setting) (c .args .height * c .args .width) (c .pre .1)
 
 few-of : {x y : ℕ} → x ≡ y → x ≤ 65536 → y ≤ 65536
 few-of e h = omega arith
@@ -81,7 +81,7 @@ returns-3 c =
     let the-codel-count = c .before .before .before .before .codel-count in
     let the-if2 = c .before .before .before .if2 in
     let the-first-colour = c .before .before .first-colour in
-    on-white (drawnFrom start) (the-args .map) (the-args .rows) (the-args .exits) (the-args .work) (the-pre .0 .0) (the-pre .0 .1) (sym (the-wrong-side .ensures) ∙ the-if1 .left) (few-of (the-codel-count .ensures) (the-if2 .left)) (one-each start) (legal-shades (the-args .pixels .now) (the-args .setting)) (sym (the-first-colour .ensures) ∙ c .if3 .taken)
+    on-white (drawnFrom start) (the-args .map) (the-args .rows) (the-args .exits) (the-args .work) (the-pre .0 .0) (the-pre .0 .1) (sym (the-wrong-side .ensures) ∙ the-if1 .left) (few-of (the-codel-count .ensures) (the-if2 .left)) (one-each start) (legal-under (the-args .pixels .now) (the-args .setting)) (sym (the-first-colour .ensures) ∙ c .if3 .taken)
 
 returns-4 : tie.Need-returns-4
 returns-4 c =
@@ -94,7 +94,7 @@ returns-4 c =
     let the-if2 = c .before .before .before .before .if2 in
     let the-first-colour = c .before .before .before .first-colour in
     let the-too-short = c .before .before .too-short in
-    on-room (drawnFrom start) (the-args .map) (the-args .rows) (the-args .exits) (the-args .work) (the-pre .0 .0) (the-pre .0 .1) (sym (the-wrong-side .ensures) ∙ the-if1 .left) (few-of (the-codel-count .ensures) (the-if2 .left)) (one-each start) (legal-shades (the-args .pixels .now) (the-args .setting)) (other-of (the-first-colour .ensures) (c .before .if3 .left)) (short-of (the-args .map) (the-args .rows) (the-args .exits) (the-args .work) (the-codel-count .ensures) (the-too-short .ensures) (c .if4 .taken))
+    on-room (drawnFrom start) (the-args .map) (the-args .rows) (the-args .exits) (the-args .work) (the-pre .0 .0) (the-pre .0 .1) (sym (the-wrong-side .ensures) ∙ the-if1 .left) (few-of (the-codel-count .ensures) (the-if2 .left)) (one-each start) (legal-under (the-args .pixels .now) (the-args .setting)) (other-of (the-first-colour .ensures) (c .before .if3 .left)) (short-of (the-args .map) (the-args .rows) (the-args .exits) (the-args .work) (the-codel-count .ensures) (the-too-short .ensures) (c .if4 .taken))
 
 returns-5 : tie.Need-returns-5
 returns-5 c =
@@ -107,7 +107,7 @@ returns-5 c =
     let the-if2 = c .before .before .before .before .if2 in
     let the-first-colour = c .before .before .before .first-colour in
     let the-too-short = c .before .before .too-short in
-    on-none (drawnFrom start) (the-args .map) (the-args .rows) (the-args .exits) (the-args .work) (the-pre .0 .0) (the-pre .0 .1) (sym (the-wrong-side .ensures) ∙ the-if1 .left) (few-of (the-codel-count .ensures) (the-if2 .left)) (one-each start) (legal-shades (the-args .pixels .now) (the-args .setting)) (other-of (the-first-colour .ensures) (c .before .if3 .left)) (short-of (the-args .map) (the-args .rows) (the-args .exits) (the-args .work) (the-codel-count .ensures) (the-too-short .ensures) (c .if4 .left))
+    on-none (drawnFrom start) (the-args .map) (the-args .rows) (the-args .exits) (the-args .work) (the-pre .0 .0) (the-pre .0 .1) (sym (the-wrong-side .ensures) ∙ the-if1 .left) (few-of (the-codel-count .ensures) (the-if2 .left)) (one-each start) (legal-under (the-args .pixels .now) (the-args .setting)) (other-of (the-first-colour .ensures) (c .before .if3 .left)) (short-of (the-args .map) (the-args .rows) (the-args .exits) (the-args .work) (the-codel-count .ensures) (the-too-short .ensures) (c .if4 .left))
 
 pub check-table-spec : {M : Type 1} → statement M
 check-table-spec =

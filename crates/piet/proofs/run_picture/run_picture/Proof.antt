@@ -8,7 +8,7 @@ use native.Mathlib.Omega.{arith}
 use lib.ListN.{length, take}
 use lib.Seq.{length-take-le}
 use Rattle.base.proofs.Sides.{side, area}
-use Rattle.colour.specs.Classify.{shades}
+use Rattle.colour.specs.Classify.{coloursUnder}
 use Rattle.piet.specs.RunPicture.{Asked, Lends, asked, lends}
 use Rattle.piet.proofs.Refusing.{Accepted, accepted, refuses}
 use Rattle.piet.proofs.Drawing.{painted, painted-part, drawn}
@@ -36,7 +36,7 @@ accepting c =
 fits : (c : tie.After-classify) → let a = asks (begun (c .before .before)) in a .height * a .width ≤ length (c .classify .last .1 .1 .1 .1 .0)
 fits c = omega (arith, accepting (c .before .before) .passing .fits, c .classify .kept .1 .1 .1 .1 .0)
 
-shown : (c : tie.After-classify) → let a = asks (begun (c .before .before)) in take (a .height * a .width) (c .classify .last .1 .1 .1 .1 .0) ≡ shades (a .pixels) (a .setting)
+shown : (c : tie.After-classify) → let a = asks (begun (c .before .before)) in take (a .height * a .width) (c .classify .last .1 .1 .1 .1 .0) ≡ coloursUnder (a .pixels) (a .setting)
 shown c = painted-part (asks (begun (c .before .before))) (has (begun (c .before .before))) (accepting (c .before .before)) (c .classify .last .1 .1 .1 .1 .0) (c .classify .ensures)
 
 check-requires : tie.Need-check-requires

@@ -11,10 +11,10 @@ use Rattle.region.proofs.explore.expand.Statement.{statement}
 use Rattle.region.proofs.explore.expand.Tie as tie
 
 abbrev Inv-loop : tie.InvT-loop
-Inv-loop colours s number i map₀ work₀ tail shade end₀ way₀ map work end way = (way ≤ 4) × Spread (gridAt colours s) number i way map₀ work₀ tail map work end
+Inv-loop colours s number i map₀ work₀ tail colour end₀ way₀ map work end way = (way ≤ 4) × Spread (gridAt colours s) number i way map₀ work₀ tail map work end
 
 abbrev μ-loop : tie.MeasureT-loop
-μ-loop colours s number i map₀ work₀ tail shade end₀ way₀ map work end way = 4 - way
+μ-loop colours s number i map₀ work₀ tail colour end₀ way₀ map work end way = 4 - way
 
 codel-colour-requires : tie.Need-codel-colour-requires Inv-loop μ-loop
 codel-colour-requires c κs = search needs

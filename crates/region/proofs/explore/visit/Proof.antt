@@ -3,7 +3,7 @@ use mathlib.Core.Path.{sym, _∙_}
 use Prim.Native.Nat.{_*_}
 use native.Mathlib.Omega.{arith}
 use borrow.Author.Needs.{needs}
-use Rattle.region.specs.Steps.{kept, pushed, mark}
+use Rattle.region.specs.Steps.{kept, pushed, unnumbered}
 use Rattle.region.proofs.GridLaws.{room-few}
 use Rattle.region.proofs.TallyLaws.{tally-some}
 use Rattle.region.proofs.explore.visit.Statement.{statement}
@@ -48,7 +48,7 @@ slice-write-work : tie.Need-slice-write-work
 slice-write-work c =
     let the-args = c .before .before .before .before .before .before .before .before .before .args in
     let the-if2 = c .before .before .if2 in
-    omega (arith, tally-some mark (the-args .s .rows * the-args .s .cols) (the-args .map .now) (the-args .j) (search needs) (search needs) (the-if2 .left))
+    omega (arith, tally-some unnumbered (the-args .s .rows * the-args .s .cols) (the-args .map .now) (the-args .j) (search needs) (search needs) (the-if2 .left))
 
 add-result : tie.Need-add-result
 add-result c = search needs

@@ -6,7 +6,7 @@ use native.Mathlib.Omega.{arith}
 use lib.ListN.{replicate}
 use borrow.Author.Needs.{needs}
 use Rattle.base.proofs.Over.{filled-zero}
-use Rattle.region.specs.Steps.{mark}
+use Rattle.region.specs.Steps.{unnumbered}
 use Rattle.region.proofs.GridLaws.{room-kept}
 use Rattle.region.proofs.Cells.{filled-at, filled-rest}
 use Rattle.region.proofs.Numbering.{part-none, part-whole}
@@ -25,7 +25,7 @@ scan-requires c κs =
     let the-fill-u32 = c .before .before .before .before .fill-u32 in
     let the-args = c .before .before .before .before .before .before .before .before .before .before .args in (
       room-kept the-pre (the-fill-u32 .kept .0) refl,
-      part-none (filled-at (the-args .map .now) (the-args .s .rows * the-args .s .cols) mark (the-fill-u32 .ensures)),
+      part-none (filled-at (the-args .map .now) (the-args .s .rows * the-args .s .cols) unnumbered (the-fill-u32 .ensures)),
     )
 
 fill-u32-requires-2 : tie.Need-fill-u32-requires-2
@@ -47,7 +47,7 @@ returns c =
     let n = the-args .s .rows * the-args .s .cols in (
       part-whole (the-scan .ensures .part) (omega (arith, the-scan .kept .1 .1 .0, the-fill-u32 .kept .0, the-pre .map-room)),
       (
-        the-scan .ensures .map-rest ∙ filled-rest (the-args .map .now) n mark (the-fill-u32 .ensures),
+        the-scan .ensures .map-rest ∙ filled-rest (the-args .map .now) n unnumbered (the-fill-u32 .ensures),
         the-fill-u322 .ensures ∙ filled-zero (the-scan .last .1 .1 .1 .0) n 0 ∙ ap (λ (l : List ℕ). replicate n 0 ++ l) (the-scan .ensures .work-rest),
       ),
     )

@@ -9,7 +9,7 @@ use borrow.Author.Needs.{needs}
 use lib.ListN.{take, drop}
 use Rattle.text.specs.Utf8.{encodes, Valid}
 use Rattle.text.specs.White.{trimStart}
-use Rattle.text.specs.Number.{numberOf}
+use Rattle.text.specs.Number.{parsed}
 use Rattle.text.specs.Input.{intOf}
 use Rattle.text.specs.declared.number.Number.the-variants.{Value}
 use Rattle.text.proofs.LineLaws.{line-within}
@@ -37,7 +37,7 @@ number c =
     int-of _ (v .0) (v .1) (t .result .now) (t .ensures) (c .parse .result) (c .parse .ensures)
 
 returns : tie.Need-returns
-unfolding numberOf trimStart encodes
+unfolding parsed trimStart encodes
 returns c = take-none intOf (c .before .before .args .input .now) (c .before .before .args .at) refl (c .if1 .taken)
 
 line-end-requires : tie.Need-line-end-requires
