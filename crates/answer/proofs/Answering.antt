@@ -20,12 +20,7 @@ use Rattle.report.specs.Text.{refusalText}
 use Rattle.answer.specs.Answer.{askedOf, refusalOf, Answers, refused, ran, Prints, Outcome, short, printed}
 use Rattle.answer.specs.Printing.{linesOf, Printable}
 use Rattle.answer.proofs.Ending.{Sized, same-refusal, printable, lines-are, ran-so}
-
-clash : {A : Type 0} → _≡_ {A = ℕ} 0 1 → A
-clash e = absurd (no e)
-  where
-    no : _≡_ {A = ℕ} 0 1 → ⊥
-    no e = omega arith
+use Rattle.base.proofs.Clash.{clash}
 
 -- the text at the start
 pub prints : {job before after text : List ℕ} {n : ℕ} → Answers job text → Put before 0 text n after → Prints job before n after

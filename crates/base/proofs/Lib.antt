@@ -1,5 +1,6 @@
 -- Laws that belong to no one function, and that the layers above cite.
 pub mod Only
+pub mod Clash
 pub mod Refusals
 pub mod Tests
 pub mod Sides

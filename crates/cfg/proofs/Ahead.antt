@@ -8,8 +8,8 @@ use native.Mathlib.Omega.{arith}
 use native.Mathlib.Nat.{div-lt-iff-lt-mul, mod-lt}
 use borrow.Author.Tests.{lt-ltb, ltb-true}
 use lib.Dec.{ltb}
-use Rattle.flow.specs.declared.Ahead.{Ahead}
-use Rattle.flow.specs.declared.Ahead.the-variants.{Codel, Outside}
+use Rattle.flow.specs.declared.Beyond.{Beyond}
+use Rattle.flow.specs.declared.Beyond.the-variants.{Codel, Outside}
 use Rattle.flow.specs.Neighbour.{orOutside, aheadOf}
 use Rattle.region.specs.Grid.{Toward}
 

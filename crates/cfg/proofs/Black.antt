@@ -11,7 +11,7 @@ use lib.ListN.{length, getD}
 use Rattle.flow.specs.Pointer.{Valid, stateNumber}
 use Rattle.flow.proofs.Order.{valid-number, number-small}
 use Rattle.flow.specs.declared.PointerState.{PointerState}
-use Rattle.flow.specs.declared.Ahead.{Ahead}
+use Rattle.flow.specs.declared.Beyond.{Beyond}
 use Rattle.colour.specs.Decode.{decodeOf}
 use Rattle.colour.specs.Palette.{black}
 use Rattle.cfg.specs.Nodes.{regionAt, Tried, wayNumber, Adds, beside, astray, over, landing, Found, entry, next, Node}
@@ -32,7 +32,7 @@ use Rattle.table.proofs.Exits.{instruction-back}
 use Rattle.cfg.proofs.NodeLaws.{joined-colour}
 
 -- a codel that is seen white is not black
-seen-white : {p : Picture} {x : Ahead} {a b : ℕ} → Sighted p x (White a b) → colourAt p a b ≡ black → ⊥
+seen-white : {p : Picture} {x : Beyond} {a b : ℕ} → Sighted p x (White a b) → colourAt p a b ≡ black → ⊥
 seen-white (at-white h) e = omega arith
 
 -- q is the region of a codel that is not black

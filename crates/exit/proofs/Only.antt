@@ -24,6 +24,7 @@ use Rattle.exit.specs.Attempt.{Attempt, shut, step, glide}
 use Rattle.exit.specs.Leaving.{LeavesBy}
 use Rattle.exit.specs.Keeping.{cellOf, AllKept}
 use Rattle.exit.proofs.LeavingLaws.{neither}
+use Rattle.base.proofs.Clash.{clash}
 
 -- the turns are all made, and are not
 over : {n : ℕ} {A : Type 0} → mostTurns ≤ n → n < mostTurns → A
@@ -31,13 +32,6 @@ over {n} h k = absurd (none h k)
   where
     none : mostTurns ≤ n → n < mostTurns → ⊥
     none h k = omega arith
-
--- one look that sees two things
-clash : {A : Type 0} → _≡_ {A = ℕ} 0 1 → A
-clash e = absurd (none e)
-  where
-    none : _≡_ {A = ℕ} 0 1 → ⊥
-    none e = omega arith
 
 -- two white codels that one look sees are one
 same-codel : {p : Picture} {x : Sight} {a b a′ b′ n : ℕ} {s : PointerState} {o : Slid} → x ≡ White a b → x ≡ White a′ b′ → Slide p a′ b′ s n o → Slide p a b s n o

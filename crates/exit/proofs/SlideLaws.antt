@@ -7,8 +7,8 @@ use lib.Dec.{eqb}
 use Rattle.colour.specs.Palette.{black, white}
 use Rattle.flow.specs.Neighbour.{aheadOf}
 use Rattle.flow.proofs.NeighbourLaws.{inside}
-use Rattle.flow.specs.declared.Ahead.{Ahead}
-use Rattle.flow.specs.declared.Ahead.the-variants.{Codel, Outside}
+use Rattle.flow.specs.declared.Beyond.{Beyond}
+use Rattle.flow.specs.declared.Beyond.the-variants.{Codel, Outside}
 use Rattle.picture.specs.Picture.{Picture, Inside, colourAt, rowsOf, colsOf}
 use Rattle.exit.specs.declared.slide.Sight.{Sight}
 use Rattle.exit.specs.declared.slide.Sight.the-variants.{Shut, White, Coloured}
@@ -28,13 +28,13 @@ unfolding seenAs
 seen-coloured k r c h i = simp (ne-eqb k black h, ne-eqb k white i)
 
 -- what is ahead, and what it is seen as
-pub data Sighted (p : Picture) : Ahead → Sight → Type 0 where
+pub data Sighted (p : Picture) : Beyond → Sight → Type 0 where
   at-edge : Sighted p Outside Shut
   at-black : {r c : ℕ} → colourAt p r c ≡ black → Sighted p (Codel r c) Shut
   at-white : {r c : ℕ} → colourAt p r c ≡ white → Sighted p (Codel r c) (White r c)
   at-colour : {r c : ℕ} → (colourAt p r c ≡ black → ⊥) → (colourAt p r c ≡ white → ⊥) → Sighted p (Codel r c) (Coloured r c)
 
-sighted : (p : Picture) (n : Ahead) → Sighted p n (seen p n)
+sighted : (p : Picture) (n : Beyond) → Sighted p n (seen p n)
 unfolding seen seenAs
 sighted p Outside = at-edge
 sighted p (Codel r c) = by-tests (eqb (colourAt p r c) black) (eqb (colourAt p r c) white) refl refl
@@ -59,13 +59,13 @@ unfolding lookOf seen
 look-codel p r c d a b e = ap (seen p) e
 
 -- a white codel that is seen, and a coloured one, is the codel ahead
-white-codel : {p : Picture} {n : Ahead} {a b : ℕ} → Sighted p n (White a b) → n ≡ Codel a b
+white-codel : {p : Picture} {n : Beyond} {a b : ℕ} → Sighted p n (White a b) → n ≡ Codel a b
 white-codel (at-white h) = refl
 
-coloured-codel : {p : Picture} {n : Ahead} {a b : ℕ} → Sighted p n (Coloured a b) → n ≡ Codel a b
+coloured-codel : {p : Picture} {n : Beyond} {a b : ℕ} → Sighted p n (Coloured a b) → n ≡ Codel a b
 coloured-codel (at-colour h i) = refl
 
-neither-colour : {p : Picture} {n : Ahead} {a b : ℕ} → Sighted p n (Coloured a b) → (colourAt p a b ≡ black → ⊥) × (colourAt p a b ≡ white → ⊥)
+neither-colour : {p : Picture} {n : Beyond} {a b : ℕ} → Sighted p n (Coloured a b) → (colourAt p a b ≡ black → ⊥) × (colourAt p a b ≡ white → ⊥)
 neither-colour (at-colour h i) = (h, i)
 
 module _ (p : Picture) (r c d : ℕ) {a b : ℕ} where

@@ -8,8 +8,8 @@ use Rattle.colour.specs.Palette.{black, white}
 use Rattle.flow.specs.Pointer.{turnedOnce}
 use Rattle.flow.specs.Neighbour.{aheadOf}
 use Rattle.flow.specs.declared.PointerState.{PointerState}
-use Rattle.flow.specs.declared.Ahead.{Ahead}
-use Rattle.flow.specs.declared.Ahead.the-variants.{Codel, Outside}
+use Rattle.flow.specs.declared.Beyond.{Beyond}
+use Rattle.flow.specs.declared.Beyond.the-variants.{Codel, Outside}
 use Rattle.picture.specs.Picture.{Picture, rowsOf, colsOf, colourAt}
 use Rattle.exit.specs.declared.slide.Sight.{Sight}
 use Rattle.exit.specs.declared.slide.Sight.the-variants.{Shut, White, Coloured}
@@ -21,7 +21,7 @@ unfoldable pub seenAs : ℕ → ℕ → ℕ → Sight
 seenAs colour r c = cond (eqb colour black) Shut (cond (eqb colour white) (White r c) (Coloured r c))
 
 -- "Shut: outside or black"
-unfoldable pub seen : Picture → Ahead → Sight
+unfoldable pub seen : Picture → Beyond → Sight
 seen p Outside = Shut
 seen p (Codel r c) = seenAs (colourAt p r c) r c
 

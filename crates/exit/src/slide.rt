@@ -5,7 +5,7 @@ ghost use Rattle.picture.specs.Picture.{pictureOf, Frames, Inside};
 ghost use Rattle.exit.specs.Slide.{lookOf, Slide};
 use colour::palette::BLACK;
 use colour::palette::WHITE;
-use flow::Ahead;
+use flow::Beyond;
 use flow::PointerState;
 use picture::shape::Shape;
 
@@ -36,7 +36,7 @@ pub fn look(colours: &[u8], s: Shape, row: usize, col: usize, dp: u8) -> Sight
     ensures { λ r. ⌜ r ≡ lookOf (pictureOf (now (colours .entry)) s) row col dp ⌝ }
 {
     let next = flow::ahead(s.rows, s.cols, row, col, dp);
-    let Ahead::Codel { row: r, col: c } = next else {
+    let Beyond::Codel { row: r, col: c } = next else {
         return Sight::Shut;
     };
     let colour = picture::shape::colour_at(colours, s, r, c);

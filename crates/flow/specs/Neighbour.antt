@@ -2,15 +2,15 @@
 use mathlib.Core.Bool.{Bool, true, false}
 use Prim.Native.Nat.{ℕ, zero, suc, _+_, _-_}
 use lib.Dec.{ltb}
-use Rattle.flow.specs.declared.Ahead.{Ahead}
-use Rattle.flow.specs.declared.Ahead.the-variants.{Codel, Outside}
+use Rattle.flow.specs.declared.Beyond.{Beyond}
+use Rattle.flow.specs.declared.Beyond.the-variants.{Codel, Outside}
 
-abbrev pub orOutside : Bool → ℕ → ℕ → Ahead
+abbrev pub orOutside : Bool → ℕ → ℕ → Beyond
 orOutside true r c = Codel r c
 orOutside false r c = Outside
 
 -- from codel (r, c) of a grid of rows and columns; dp right, down, left, up
-unfoldable pub aheadOf : ℕ → ℕ → ℕ → ℕ → ℕ → Ahead
+unfoldable pub aheadOf : ℕ → ℕ → ℕ → ℕ → ℕ → Beyond
 aheadOf rows cols r c zero = orOutside (ltb (c + 1) cols) r (c + 1)
 aheadOf rows cols r c (suc zero) = orOutside (ltb (r + 1) rows) (r + 1) c
 aheadOf rows cols r c (suc (suc zero)) = orOutside (ltb 0 c) r (c - 1)

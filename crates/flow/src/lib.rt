@@ -88,40 +88,40 @@ impl PointerState {
 }
 
 // The codel one step along dp, or none at the edge.
-pub enum Ahead {
+pub enum Beyond {
     Codel { row: usize, col: usize },
     Outside,
 }
 
 // `MOVE_IN`: the wrapping moves of the Rust become tests of the grid's bounds.
-pub fn ahead(rows: usize, cols: usize, row: usize, col: usize, dp: u8) -> Ahead
+pub fn ahead(rows: usize, cols: usize, row: usize, col: usize, dp: u8) -> Beyond
     requires { ⌜ (row < rows) × (col < cols) ⌝ }
     ensures { λ r. ⌜ r ≡ aheadOf rows cols row col dp ⌝ }
 {
     match dp {
         0 => {
             if col + 1 < cols {
-                return Ahead::Codel { row, col: col + 1 };
+                return Beyond::Codel { row, col: col + 1 };
             }
-            Ahead::Outside
+            Beyond::Outside
         }
         1 => {
             if row + 1 < rows {
-                return Ahead::Codel { row: row + 1, col };
+                return Beyond::Codel { row: row + 1, col };
             }
-            Ahead::Outside
+            Beyond::Outside
         }
         2 => {
             if 0 < col {
-                return Ahead::Codel { row, col: col - 1 };
+                return Beyond::Codel { row, col: col - 1 };
             }
-            Ahead::Outside
+            Beyond::Outside
         }
         _ => {
             if 0 < row {
-                return Ahead::Codel { row: row - 1, col };
+                return Beyond::Codel { row: row - 1, col };
             }
-            Ahead::Outside
+            Beyond::Outside
         }
     }
 }

@@ -17,7 +17,8 @@ use Rattle.interpreter.specs.Table.{tried, exitOf}
 use Rattle.interpreter.specs.Run.{Job, Machine, Went, goes, halts, arrive, effectOf, through, leave, stepOf, after, runOf}
 use Rattle.table.specs.ExitNumber.{targetOf}
 use Rattle.interpreter.proofs.Attempts.{First, open-first, open-none}
-use Rattle.interpreter.proofs.Moves.{clash, counts}
+use Rattle.base.proofs.Clash.{clash}
+use Rattle.interpreter.proofs.Moves.{counts}
 
 store-of : Went → Store → Store
 store-of (goes m) s = m .store

@@ -13,13 +13,7 @@ use Rattle.machine.specs.declared.Stop.the-variants.{Completed, MaxSteps, Needs
 use Rattle.machine.specs.Machine.{Effect, does, bad-input, Out, keeps, stops, fitting}
 use Rattle.interpreter.specs.Table.{exitOf}
 use Rattle.interpreter.specs.Run.{Job, Machine, Went, goes, halts, arrive, effectOf, through, leave, stepOf, End, after, runOf}
-
--- two constructors are never equal
-pub clash : {X : Type 0} → _≡_ {A = ℕ} 0 1 → X
-clash e = absurd (never e)
-  where
-    never : _≡_ {A = ℕ} 0 1 → ⊥
-    never e = omega arith
+use Rattle.base.proofs.Clash.{clash}
 
 module _ (j : Job) where
   -- so many steps of the definition, one after another

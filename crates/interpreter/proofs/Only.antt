@@ -27,7 +27,7 @@ use Rattle.interpreter.specs.Forever as Always
 use Rattle.interpreter.specs.Run.{End, runOf, start}
 use Rattle.interpreter.specs.Outcome.{Outcome, outcome, outcomeOf, jobOf, finished, endedOf, resultOf, refused, numbered, refusals}
 use Rattle.interpreter.specs.Placed.{Resumed}
-use Rattle.interpreter.proofs.Moves.{clash}
+use Rattle.base.proofs.Clash.{clash}
 use Rattle.interpreter.proofs.Settled.{settled}
 
 module _ (n : ℕ) (rows exits : List ℕ) (limit : ℕ) (mode : Bool) (input : List ℕ) (l : Slices) where

@@ -30,13 +30,7 @@ use Rattle.cfg.proofs.Leads.{Leads, exit-cases}
 use Rattle.region.specs.Grid.{gridOf}
 use Rattle.region.proofs.MapLaws.{map-few}
 use Rattle.interpreter.specs.Table.{tried, openFrom, exitOf, pointersOf}
-
--- two constructors that are equal
-pub clash : {A : Type 0} → _≡_ {A = ℕ} 0 1 → A
-clash e = absurd (no e)
-  where
-    no : _≡_ {A = ℕ} 0 1 → ⊥
-    no e = omega arith
+use Rattle.base.proofs.Clash.{clash}
 
 -- what a run reads of a picture's table
 pub record Tabled (p : Picture) (map rows exits : List ℕ) (n : ℕ) : Type 0 where

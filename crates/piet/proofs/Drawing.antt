@@ -22,7 +22,7 @@ use Rattle.piet.specs.declared.run_picture.Pictured.{Pictured}
 use Rattle.piet.specs.declared.run_picture.Pictured.the-variants.{Finished, Refused}
 use Rattle.piet.specs.RunPicture.{Asked, Lends, refusalOf, RanPicture, Outcome, done}
 use Rattle.piet.specs.Drawn.{ranOf, Draws}
-use Rattle.piet.proofs.Bridge.{clash}
+use Rattle.base.proofs.Clash.{clash}
 use Rattle.piet.proofs.Built.{picture-follows}
 use Rattle.piet.proofs.Seeing.{length-under}
 use Rattle.piet.proofs.Refusing.{Accepted}

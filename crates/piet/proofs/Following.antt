@@ -36,7 +36,8 @@ use Rattle.region.specs.Grid.{gridOf}
 use Rattle.region.proofs.MapLaws.{map-low}
 use Rattle.interpreter.specs.Table.{exitOf, pointersOf}
 use Rattle.interpreter.specs.Run.{Job, Machine, End, start, halts, effectOf, arrive, leave, stepOf, after, runOf}
-use Rattle.piet.proofs.Bridge.{clash, Tabled, Taken, none, some, taken}
+use Rattle.base.proofs.Clash.{clash}
+use Rattle.piet.proofs.Bridge.{Tabled, Taken, none, some, taken}
 
 -- ---- an instruction keeps the pointers a state
 

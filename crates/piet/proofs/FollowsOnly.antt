@@ -27,7 +27,7 @@ use Rattle.cfg.proofs.Trying.{placed}
 use Rattle.interpreter.specs.Run.{Machine, End}
 use Rattle.piet.specs.Moves.{Opens, beside, across, FirstOpen, NoneOpen}
 use Rattle.piet.specs.Follows.{Given, Move, doing, Walk, starts, moves, Follows}
-use Rattle.piet.proofs.Bridge.{clash}
+use Rattle.base.proofs.Clash.{clash}
 use Rattle.piet.proofs.Following.{keeps-valid}
 
 -- the reasons to stop: three that the picture and the limit tell, and those of a move that is not kept

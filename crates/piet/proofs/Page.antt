@@ -16,7 +16,7 @@ use Rattle.colour.proofs.PaletteLaws.{same-bytes}
 use Rattle.colour.specs.Decode as decoding
 use Rattle.colour.specs.Decode.{decodeOf}
 use Rattle.flow.specs.declared.PointerState.{PointerState}
-use Rattle.flow.specs.declared.Ahead.the-variants.{Codel, Outside}
+use Rattle.flow.specs.declared.Beyond.the-variants.{Codel, Outside}
 use Rattle.flow.specs.Pointer.{Valid, stateNumber, attemptOf, flipped, clockwise}
 use Rattle.flow.specs.Neighbour.{aheadOf}
 use Rattle.flow.proofs.Order.{number-small}
@@ -41,7 +41,7 @@ use Rattle.interpreter.specs.Run.{start, End}
 use Rattle.piet.specs.Moves.{Opens, beside, across, NoneOpen}
 use Rattle.piet.specs.Follows.{Given, Follows}
 use Rattle.piet.specs.Page.{colours, line, column, commands, right, down, left, up, toLeft}
-use Rattle.piet.proofs.Bridge.{clash}
+use Rattle.base.proofs.Clash.{clash}
 
 -- ---- "Colours"
 

@@ -31,7 +31,7 @@ use Rattle.machine.specs.declared.Op.{Op}
 use Rattle.machine.specs.declared.Op.the-variants.{Nothing, Push, Pop, Pair, Not, Ptr, Swi, Dup, Roll, CharIn, CharOut, IntIn, IntOut}
 use Rattle.machine.specs.Output.{Emit, ofTop, char}
 use Rattle.machine.specs.Machine.{Store, does, exec, fitting, turn, write, byTop, read, take, withStack, withPointers, withOuts, withUsed}
-use Rattle.piet.proofs.Bridge.{clash}
+use Rattle.base.proofs.Clash.{clash}
 use Rattle.piet.specs.Follows.{Given, doing}
 use Rattle.piet.specs.Page.{takes, Changes, InRange, times, anticlockwise}
 

@@ -3,14 +3,14 @@ use mathlib.Core.Path.{_≡_, refl, sym, ap, subst, _∙_}
 use Prim.Native.Nat.{ℕ, _-_}
 use lib.Dec.{ltb}
 use borrow.Author.Tests.{lt-ltb, le-ltb}
-use Rattle.flow.specs.declared.Ahead.{Ahead}
+use Rattle.flow.specs.declared.Beyond.{Beyond}
 use Rattle.flow.specs.Neighbour.{aheadOf, orOutside}
 use Rattle.flow.proofs.NeighbourLaws.{ahead-up}
 use borrow.Author.Needs.{needs}
 use Rattle.flow.proofs.ahead.Statement.{statement}
 use Rattle.flow.proofs.ahead.Tie as tie
 
-at-dp : (f : ℕ → Ahead) {x : Ahead} {d k : ℕ} → d ≡ k → x ≡ f k → x ≡ f d
+at-dp : (f : ℕ → Beyond) {x : Beyond} {d k : ℕ} → d ≡ k → x ≡ f k → x ≡ f d
 at-dp f {x} e h = subst (λ (n : ℕ). x ≡ f n) (sym e) h
 
 up : (c : tie.At-match-rest) → aheadOf (c .before .args .rows) (c .before .args .cols) (c .before .args .row) (c .before .args .col) (c .before .args .dp) ≡ orOutside (ltb 0 (c .before .args .row)) (c .before .args .row - 1) (c .before .args .col)

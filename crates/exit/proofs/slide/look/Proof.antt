@@ -4,8 +4,8 @@ use Prim.Native.Nat.{ℕ}
 use denote.Ref.{now}
 use borrow.Author.Needs.{needs}
 use Rattle.flow.specs.Neighbour.{aheadOf}
-use Rattle.flow.specs.declared.Ahead.{Ahead}
-use Rattle.flow.specs.declared.Ahead.the-variants.{Codel}
+use Rattle.flow.specs.declared.Beyond.{Beyond}
+use Rattle.flow.specs.declared.Beyond.the-variants.{Codel}
 use Rattle.picture.specs.Picture.{Picture, pictureOf, rowsOf, colsOf}
 use Rattle.exit.specs.declared.slide.Sight.{Sight}
 use Rattle.exit.specs.Slide.{lookOf, seenAs}
@@ -17,7 +17,7 @@ abbrev pic : tie.Start → Picture
 pic c = pictureOf (now (c .args .colours)) (c .args .s)
 
 -- the codel ahead, and the look from the arguments
-abbrev Ahead : tie.Start → Ahead
+abbrev Ahead : tie.Start → Beyond
 Ahead c = aheadOf (rowsOf (pic c)) (colsOf (pic c)) (c .args .row) (c .args .col) (c .args .dp)
 
 abbrev Look : tie.Start → Sight
