@@ -23,18 +23,18 @@ abbrev exits : List ℕ
 exits = 524290 ∷ 589826 ∷ 0 ∷ 0 ∷ 0 ∷ 0 ∷ 0 ∷ 0 ∷ 0 ∷ 0 ∷ 0 ∷ 0 ∷ 1310721 ∷ 1376257 ∷ 0 ∷ 0 ∷ []
 
 -- slices that hold something before the call
-abbrev slices : Slices
-slices = slices (pos 7 ∷ pos 8 ∷ pos 9 ∷ []) (5 ∷ []) (pos 6 ∷ pos 6 ∷ [])
+abbrev used : Slices
+used = slices (pos 7 ∷ pos 8 ∷ pos 9 ∷ []) (5 ∷ []) (pos 6 ∷ pos 6 ∷ [])
 
 -- "status 2, steps 3, at RegRed_0_1 0 0, stack 1 1, out 0"; all other cells hold 0
-pub job : (numbered (outcomeOf 2 rows exits 3 false [] slices .answer) ≡ numbers 0 (2 ∷ 3 ∷ 1 ∷ 0 ∷ 0 ∷ 1 ∷ 0 ∷ 0 ∷ []))
-    × (outcomeOf 2 rows exits 3 false [] slices .slices ≡ slices (pos 1 ∷ pos 0 ∷ pos 0 ∷ []) (0 ∷ []) (pos 0 ∷ pos 0 ∷ []))
+pub job : (numbered (outcomeOf 2 rows exits 3 false [] used .answer) ≡ numbers 0 (2 ∷ 3 ∷ 1 ∷ 0 ∷ 0 ∷ 1 ∷ 0 ∷ 0 ∷ []))
+    × (outcomeOf 2 rows exits 3 false [] used .slices ≡ slices (pos 1 ∷ pos 0 ∷ pos 0 ∷ []) (0 ∷ []) (pos 0 ∷ pos 0 ∷ []))
 unfolding attemptOf pop statusOf exec fitting openFrom any arrive after runOf numbered
 job = (refl, refl)
 
 -- the same table taken for one of 1 region: an exit leads to region 1, which is refused, and nothing changes
-pub job-refused : (numbered (outcomeOf 1 rows exits 3 false [] slices .answer) ≡ refused)
-    × (outcomeOf 1 rows exits 3 false [] slices .slices ≡ slices)
+pub job-refused : (numbered (outcomeOf 1 rows exits 3 false [] used .answer) ≡ refused)
+    × (outcomeOf 1 rows exits 3 false [] used .slices ≡ used)
     × (Forever.numbered (Forever.foreverOf 1 rows exits) ≡ numbers 10 (0 ∷ []))
 unfolding any numbered Forever.numbered
 job-refused = (refl, refl, refl)
