@@ -18,7 +18,7 @@ use Rattle.base.proofs.Clash.{clash}
 use Rattle.machine.specs.declared.Stop.{Stop}
 use Rattle.machine.specs.declared.Stop.the-variants.{Completed, MaxSteps, NeedsInput}
 use Rattle.machine.specs.Machine.{underLimit, Out, keeps, stops, fitting}
-use Rattle.machine.specs.Place.{Machine, End}
+use Rattle.machine.specs.Place.{Machine}
 use Rattle.machine.proofs.Fitting.{fit-stops, not-limit, exec-limit}
 use Rattle.table.specs.ExitNumber.{targetOf}
 use Rattle.interpreter.specs.Run.{Job, Went, goes, halts, arrive, exitFrom, effectOf, through, leave, stepOf, after, runOf}

@@ -15,7 +15,6 @@ use native.Mathlib.Omega.{arith}
 use lib.Dec.{eqb}
 use lib.ListN.{getD}
 use Rattle.base.specs.Numbers.{Numbers, numbers, numberOf, valuesOf, row, first}
-use Rattle.base.proofs.Clash.{clash}
 use Rattle.machine.specs.Machine.{Given}
 use Rattle.machine.specs.Held.{Slices}
 use Rattle.machine.proofs.Only.{AsLong}
