@@ -10,9 +10,9 @@ use Rattle.picture.specs.Picture.{Picture, colsOf, codels, codelColour}
 use Rattle.region.specs.Grid.{gridOf}
 use Rattle.region.specs.Region.{IsMap}
 use Rattle.region.specs.Rows.{First}
-use Rattle.machine.specs.Machine.{statusOf}
-use Rattle.interpreter.specs.Run.{End}
-use Rattle.piet.specs.Follows.{Given, Follows}
+use Rattle.machine.specs.Machine.{given, RunRoom, statusOf}
+use Rattle.machine.specs.Place.{End}
+use Rattle.piet.specs.Follows.{Follows}
 use Rattle.piet.specs.RunPicture.{Asked, asked, askedPicture, refusal}
 use Rattle.job.specs.declared.Job.the-variants.{Refused}
 use Rattle.job.specs.Encoding.{Content, IsJob}
@@ -21,15 +21,16 @@ use Rattle.report.specs.Text.{resultText, refusalText}
 
 -- what a job asks of a run: "Setting 0"
 abbrev pub askedOf : Content → Asked
-askedOf c = asked (c .pixels) (c .height) (c .width) 0 (c .codel) (c .limit) (c .abstracted) (c .input)
+askedOf c =
+    asked (c .pixels) (c .height) (c .width) 0 (c .codel) (given (record { limit = c .limit; «abstract_mode» = c .abstracted }) (c .input))
 
 -- "the refusals of classifying, then of building"; "room for 512 pixels", and so for the table of 512 codels
 abbrev pub refusalOf : Content → Numbers
 refusalOf c = refusal (askedOf c) 512 512 2560 4096 512
 
 -- "256 stack cells, 256 outputs"
-abbrev pub givenOf : Content → Given
-givenOf c = record { mode = c .abstracted; input = c .input; stackRoom = 256; outRoom = 256 }
+abbrev pub runRoom : RunRoom
+runRoom = record { stack = 256; outs = 256 }
 
 -- the label of region r: that of its first codel, whose top left pixel is the region's first pixel
 pub record Labels (p : Picture) (map : List ℕ) (r : ℕ) (label : List ℕ) : Type 0 where
@@ -42,7 +43,7 @@ pub record Ran (c : Content) (map : List ℕ) (e : End) (label : List ℕ) : Typ
   pub regions : ℕ
   pub long : length map ≡ codels (askedPicture (askedOf c))
   pub numbered : IsMap (gridOf (askedPicture (askedOf c))) map regions
-  pub follows : Follows (askedPicture (askedOf c)) map (givenOf c) (c .limit) e
+  pub follows : Follows (askedPicture (askedOf c)) map (askedOf c .given) runRoom e
   pub labelled : Labels (askedPicture (askedOf c)) map (e .at .region) label
 
 -- status, steps, label, dp, cc, stack and outputs of an end

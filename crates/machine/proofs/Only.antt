@@ -42,8 +42,7 @@ same-held l l′ at at′ n s s′ e =
         pointers = e i .pointers;
         depth = u .0 i;
         outputs = o .0 i;
-        used = e i .used;
-        awaiting = e i .awaiting;
+        reading = e i .reading;
       },
       λ i. slices (u .1 i) (o .1 i) (o .2 i),
     )
