@@ -9,8 +9,8 @@ use Rattle.text.specs.Range.{within}
 use Rattle.text.specs.Utf8.{scalar, scalars, encode, encodes}
 use Rattle.text.specs.White.{whiteSpace, trimStart}
 use Rattle.text.specs.Number.{digits, numeral, onward, magnitudeOf, sign, parsed}
-use Rattle.text.specs.Input.{charOf, intOf}
-use Rattle.text.specs.Reading.{back, rest, chars, same, valid, given, takeOf}
+use Rattle.text.specs.Input.{charOf, intOf, given}
+use Rattle.text.specs.Reading.{back, rest, chars, same, valid, takeOf}
 use Rattle.text.specs.declared.input.Taken.the-variants.{Push, Skip, BadInput}
 use Rattle.text.specs.declared.number.Number.the-variants.{Value, NotANumber}
 
