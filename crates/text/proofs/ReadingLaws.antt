@@ -1,5 +1,6 @@
 -- The functions that compute agree with the relations.
 --     reading-is                 the characters of UTF-8 are its reading
+--     same-self                  a list is the same as itself
 --     valid-utf8, utf8-valid     `valid` is true exactly of bytes that some characters read
 --     takes-of, takes-is         an input instruction takes `takeOf`, and nothing else
 -- Assumes nothing.
@@ -56,7 +57,7 @@ same-is [] (b ∷ bs) e = absurd (false≢true e)
 same-is (a ∷ l) [] e = absurd (false≢true e)
 same-is (a ∷ l) (b ∷ bs) e = let p = and-both (eqb a b) (same l bs) e in ap₂ _∷_ (eqb-true a b (p .0)) (same-is l bs (p .1))
 
-same-self : (a : List ℕ) → same a a ≡ true
+pub same-self : (a : List ℕ) → same a a ≡ true
 unfolding same
 same-self [] = refl
 same-self (a ∷ l) = rw (eq-eqb a a refl) (same-self l)
