@@ -4,7 +4,7 @@ use mathlib.Core.List.{List, [], _∷_}
 use Prim.Native.Nat.{ℕ, suc, _*_, _/_, _%_, _<_, _≤_}
 use lib.ListN.{length}
 use Rattle.base.specs.Lent.{lent}
-use Rattle.base.specs.Numbers.{Numbers, numbers}
+use Rattle.base.specs.Numbers.{Numbers, numbers, numberOf}
 use Rattle.colour.specs.Label.{labelOf}
 use Rattle.picture.specs.Picture.{Picture, colsOf, codels, codelColour}
 use Rattle.region.specs.Grid.{gridOf}
@@ -55,7 +55,7 @@ endText e label =
 -- the text that is printed for a list of bytes
 pub data Answers (job : List ℕ) : List ℕ → Type 0 where
   -- "anything else is 11, tested first"
-  no-job : ((c : Content) → IsJob job c → ⊥) → Answers job (refusalText (reading.numbered Refused))
+  no-job : ((c : Content) → IsJob job c → ⊥) → Answers job (refusalText (numberOf (reading.numbered Refused)))
   -- "A refusal prints `refused N`"
   refused : (c : Content) → IsJob job c → (k : ℕ) (v : List ℕ) → refusalOf c ≡ numbers (suc k) v → Answers job (refusalText (suc k))
   ran : (c : Content) → IsJob job c → refusalOf c ≡ numbers 0 (0 ∷ 0 ∷ []) → (map : List ℕ) (e : End) (label : List ℕ) → Ran c map e label
