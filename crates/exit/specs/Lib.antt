@@ -1,4 +1,5 @@
 -- The slide, one attempt, the codel to leave by, and the table of these.
+pub mod Trail
 pub mod Slide
 pub mod Attempt
 pub mod Leaving
