@@ -4,6 +4,7 @@ pub mod SlideLaws
 pub mod TrailLaws
 pub mod Sliding
 pub mod SlideEnds
+pub mod Opening
 pub mod LeavingLaws
 pub mod KeepingLaws
 pub mod Page

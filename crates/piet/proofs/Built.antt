@@ -3,7 +3,6 @@
 use mathlib.Core.Path.{_≡_, refl, sym, ap, _∙_}
 use mathlib.Core.Bool.{Bool, true, false, true≢false}
 use mathlib.Core.List.{List, [], _∷_}
-use mathlib.Core.Logic.{⊎-elim}
 use Prim.Native.Nat.{ℕ, zero, suc, _/_, _%_, _<_, _≤_}
 use native.Mathlib.Omega.{arith}
 use borrow.Author.Tests.{le-ltb, lt-leb, eq-eqb, ne-eqb}
@@ -19,7 +18,6 @@ use Rattle.picture.specs.Picture.{Picture, codels, Sound}
 use Rattle.picture.proofs.Codels.{first-in}
 use Rattle.table.specs.Layout.{rowCell, sizeField, markField, exitCell, rowsRoom, exitsRoom}
 use Rattle.table.specs.ExitNumber.{targetOf, largestExit}
-use Rattle.table.proofs.Exits.{target-back}
 use Rattle.region.specs.Grid.{gridOf}
 use Rattle.region.proofs.MapLaws.{map-few}
 use Rattle.cfg.specs.Table.{Marks, is, none, Builds}
@@ -27,7 +25,7 @@ use Rattle.cfg.specs.declared.building.Built.the-variants.{Done}
 use Rattle.cfg.specs.Build as building
 use Rattle.cfg.specs.Build.{Written, refusals, refusal}
 use Rattle.cfg.proofs.Refusing.{accepted}
-use Rattle.cfg.proofs.Leads.{Leads, leads-small, exit-leads}
+use Rattle.cfg.proofs.Leads.{exit-fits}
 use Rattle.interpreter.specs.declared.Ran.{Ran}
 use Rattle.interpreter.specs.declared.Ran.the-variants.{Finished}
 use Rattle.interpreter.specs.Table.{any, wrongMark, wrongExit, validOf, markOf}
@@ -80,23 +78,8 @@ module _ {p : Picture} {map rows exits work map′ rows′ exits′ work′ : Li
       let e : exitCell (i / 8) (i % 8) ≡ i = omega arith in
       let z : getD (take (exitsRoom (codels p)) exits′) (exitCell (i / 8) (i % 8)) 0 ≡ getD exits′ i 0 =
       ap (λ (k : ℕ). getD (take (exitsRoom (codels p)) exits′) k 0) e ∙ exit-cell i h in
-      ⊎-elim
-      (λ (l : getD (take (exitsRoom (codels p)) exits′) (exitCell (i / 8) (i % 8)) 0 ≡ 0). rw (sym z ∙ l) (right-exit 0 (omega arith) positive))
-      (λ (l : Leads p (take (codels p) map′) n (getD (take (exitsRoom (codels p)) exits′) (exitCell (i / 8) (i % 8)) 0)).
-      led (rw z at l))
-      (exit-leads S B (i / 8) (i % 8) (omega arith) (omega arith))
-    where
-      right-exit : (x : ℕ) → x ≤ largestExit → targetOf x < n → wrongExit n x ≡ false
-      right-exit x h k = rw (le-ltb largestExit x h, lt-leb n (targetOf x) k)
-
-      positive : targetOf 0 < n
-      positive = omega (arith, B .regions .below 0 (first-in S))
-
-      led : {x : ℕ} → Leads p (take (codels p) map′) n x → wrongExit n x ≡ false
-      led {x} l =
-          let k : l .target < 65536 = omega (arith, l .low, few, S .few) in
-          let t : targetOf x ≡ l .target = ap targetOf (l .number) ∙ target-back (l .target) (l .state) (l .instruction) k (l .valid) in
-          right-exit x (leads-small S (B .regions) l) (rw t (l .low))
+      let l = exit-fits S B (i / 8) (i % 8) (omega arith) (omega arith) in
+      rw (le-ltb largestExit (getD exits′ i 0) (rw z at (l .0)), lt-leb n (targetOf (getD exits′ i 0)) (rw z at (l .1)))
 
   -- the run does not refuse the table
   pub valid : validOf n rows′ exits′ ≡ true

@@ -17,9 +17,8 @@ use Rattle.colour.specs.Decode as decoding
 use Rattle.colour.specs.Decode.{decodeOf}
 use Rattle.flow.specs.declared.PointerState.{PointerState}
 use Rattle.flow.specs.declared.Beyond.the-variants.{Codel, Outside}
-use Rattle.flow.specs.Pointer.{Valid, stateNumber, attemptOf, flipped, clockwise}
+use Rattle.flow.specs.Pointer.{Valid, attemptOf, flipped, clockwise}
 use Rattle.flow.specs.Neighbour.{aheadOf}
-use Rattle.flow.proofs.Order.{number-small}
 use Rattle.picture.specs.Picture.{Picture, rowsOf, colsOf, codels, colourAt, Sound}
 use Rattle.picture.proofs.Codels.{cols-pos, first-in}
 use Rattle.region.specs.Grid.{gridOf}
@@ -32,14 +31,14 @@ use Rattle.exit.specs.declared.attempt.Way.the-variants.{Glide}
 use Rattle.exit.specs.Trail.{station, Trail, Rule}
 use Rattle.exit.specs.Slide.{lookOf, seen, seenAs, Slide, lost, turn, move, land}
 use Rattle.exit.specs.Leaving.{LeavesBy, behind, reach, sideOf, beats, more}
-use Rattle.cfg.specs.Nodes.{Tried, regionAt}
-use Rattle.cfg.proofs.NodeLaws.{same-way}
+use Rattle.exit.specs.Opens.{regionAt, Tried, Opens, beside, across}
+use Rattle.exit.proofs.Opening.{same-way}
 use Rattle.machine.specs.declared.Op.{Op}
 use Rattle.machine.specs.declared.Op.the-variants.{Nothing}
 use Rattle.machine.specs.declared.Stop.the-variants.{Completed}
 use Rattle.machine.specs.Machine.{Store, does, numbered, exec}
 use Rattle.interpreter.specs.Run.{start, End}
-use Rattle.piet.specs.Moves.{Opens, beside, across, NoneOpen}
+use Rattle.piet.specs.Moves.{NoneOpen}
 use Rattle.piet.specs.Follows.{Given, Follows}
 use Rattle.piet.specs.Page.{colours, line, column, commands, right, down, left, up, toLeft}
 use Rattle.base.proofs.Clash.{clash}
@@ -242,8 +241,8 @@ slide-lands {p} {rule} {past} {t} {r} {c} {r′} {c′} {s} {o} h e = (
 
 -- "Entering a coloured block from white executes nothing"
 pub enters-silently : {p : Picture} {map : List ℕ} {r a b c d target i : ℕ} {q u v : PointerState} → Sound p → length map ≡ codels p → Valid q
-    → Tried p map r (stateNumber q) (Glide a b c d u) → Opens p map r q target v i
+    → Tried p map r q (Glide a b c d u) → Opens p map r q target v i
     → (mode : Bool) (input : List ℕ) (size : ℕ) (m : Store) → exec mode input size (numbered i) m ≡ does m
 unfolding exec
-enters-silently {q = q} S L k t (beside x) mode input size m = let e = same-way (cols-pos S) L (number-small q k) t x in clash (cc)
+enters-silently S L k t (beside x) mode input size m = let e = same-way (cols-pos S) L k t x in clash (cc)
 enters-silently S L k t (across x) mode input size m = refl
