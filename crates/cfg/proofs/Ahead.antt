@@ -1,6 +1,6 @@
 -- The codel one step along dp: by row and column (`aheadOf`, which slides and attempts walk by) and by index (`Toward`,
 -- which joins the codels of a region) it is one. Assumes nothing.
-use mathlib.Core.Path.{_≡_, refl, sym, _∙_}
+use mathlib.Core.Path.{_≡_, refl, sym}
 use mathlib.Core.Bool.{Bool, true, false}
 use mathlib.Core.Logic.{_↔_}
 use Prim.Native.Nat.{ℕ, zero, suc, _+_, _-_, _*_, _/_, _%_, _<_}
@@ -8,8 +8,7 @@ use native.Mathlib.Omega.{arith}
 use native.Mathlib.Nat.{div-lt-iff-lt-mul, mod-lt}
 use borrow.Author.Tests.{lt-ltb, ltb-true}
 use lib.Dec.{ltb}
-use Rattle.flow.specs.declared.Beyond.{Beyond}
-use Rattle.flow.specs.declared.Beyond.the-variants.{Codel, Outside}
+use Rattle.flow.specs.declared.Beyond.the-variants.{Codel}
 use Rattle.flow.specs.Neighbour.{orOutside, aheadOf}
 use Rattle.region.specs.Grid.{Toward}
 

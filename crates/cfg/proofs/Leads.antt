@@ -1,47 +1,38 @@
--- Where the exits of a table lead: an exit that is not 0 is the number of a node, a state and an instruction.
---     exit-leads     the exits of a table
---     leads-small    such a number is at most 9,437,184, as the run asks
+-- Where the exits of a table lead.
+--     opens-leads    an open attempt of a found region leads to a node, in a state, with an instruction of document 01
+--     exit-fits      an exit is at most 9,437,184, and what it says of a target is a region's number, as the run asks
 -- Assumes nothing.
-use mathlib.Core.Path.{_≡_, refl, sym, _∙_}
-use mathlib.Core.Logic.{_⊎_, inl, inr}
+use mathlib.Core.Path.{_≡_, sym, subst, _∙_}
 use mathlib.Core.List.{List}
 use Prim.Native.Nat.{ℕ, _<_, _≤_}
 use native.Mathlib.Omega.{arith}
-use lib.Dec.{lit≤}
-use lib.ListN.{length, getD}
+use lib.ListN.{length}
 use Rattle.flow.specs.Pointer.{Valid, stateNumber}
 use Rattle.flow.proofs.Order.{valid-number, number-small}
 use Rattle.flow.specs.declared.PointerState.{PointerState}
-use Rattle.cfg.specs.Nodes.{regionAt, wayNumber, Adds, beside, landing, Found, next, Node}
-use Rattle.cfg.specs.Table.{Exit, node, no-node, Builds}
-use Rattle.table.specs.Layout.{exitCell}
-use Rattle.colour.specs.Decode.{decodeOf}
-use Rattle.exit.specs.declared.attempt.Way.{Way}
-use Rattle.picture.specs.Picture.{Picture, Inside, colourAt, codels, codelColour, indexOf, Sound}
 use Rattle.colour.specs.Palette.{white}
-use Rattle.exit.proofs.SlideLaws.{white-inside, coloured-inside, coloured-colour}
-use Rattle.exit.proofs.SlideEnds.{landing as lands-at}
-use Rattle.exit.specs.Attempt.{Attempt, shut, step, glide, lost}
+use Rattle.picture.specs.Picture.{Picture, Inside, colourAt, codels, codelColour, indexOf, Sound}
+use Rattle.picture.proofs.Codels.{index-in, row-of, col-of, first-in}
+use Rattle.region.specs.Grid.{gridOf}
 use Rattle.region.specs.Region.{IsMap}
 use Rattle.region.proofs.MapLaws.{map-few}
-use Rattle.cfg.proofs.NodeLaws.{joined-colour}
-use Rattle.colour.proofs.DecodeLaws.{decode-small}
-use Rattle.region.specs.Grid.{gridOf}
-use Rattle.picture.proofs.Codels.{index-in, row-of, col-of, inside-of}
-use Rattle.table.specs.ExitNumber.{exitNumber}
+use Rattle.table.specs.Layout.{exitAt}
+use Rattle.table.specs.ExitNumber.{targetOf, largestExit}
+use Rattle.table.proofs.Exits.{target-back, in-range}
+use Rattle.exit.specs.Opens.{regionAt, Opens}
+use Rattle.exit.proofs.Opening.{reached, opens-known}
+use Rattle.cfg.specs.Nodes.{Found, Node}
+use Rattle.cfg.specs.Table.{Exit, no-node, shut, leads, Builds}
+use Rattle.cfg.proofs.NodeLaws.{joined-colour, opens-found}
 
--- what an open exit's number says
-pub record Leads (p : Picture) (map : List ℕ) (n x : ℕ) : Type 0 where
-  pub target : ℕ
-  pub state : ℕ
-  pub instruction : ℕ
-  pub number : x ≡ exitNumber target state instruction
+-- what a target, a state and an instruction of an exit are
+pub record Leads (p : Picture) (map : List ℕ) (n target : ℕ) (u : PointerState) (i : ℕ) : Type 0 where
   pub low : target < n
-  pub valid : state < 8
-  pub known : instruction ≤ 17
+  pub valid : Valid u
+  pub known : i ≤ 17
   pub node : Node p map target
 
-module _ {p : Picture} {map : List ℕ} {n : ℕ} (S : Sound p) (M : IsMap (gridOf p) map n) where
+module _ {p : Picture} {map : List ℕ} {n : ℕ} (S : Sound p) (M : IsMap (gridOf p) map n) (long : length map ≡ codels p) where
   colour-at : (a b : ℕ) → Inside p a b → codelColour p (indexOf p a b) ≡ colourAt p a b
   colour-at a b i = rw (row-of p a b i, col-of p a b i)
 
@@ -52,45 +43,33 @@ module _ {p : Picture} {map : List ℕ} {n : ℕ} (S : Sound p) (M : IsMap (grid
     coloured = λ w. d (sym (colour-at a b i) ∙ sym (joined-colour (M .apart (w .codel) (indexOf p a b) (w .inside) (index-in p a b i) (w .own))) ∙ w .colour);
   }
 
-  attempt-leads : {r c : ℕ} {q : PointerState} {w : Way} (from s : ℕ) → s < 8 → Inside p r c → Valid q → ((x : ℕ) → Adds p map w x → Found p map x) → Attempt p r c q w
-      → (wayNumber p map from s w ≡ 0) ⊎ Leads p map n (wayNumber p map from s w)
-  unfolding wayNumber
-  attempt-leads from s h i v f (shut e) = inl refl
-  attempt-leads {r} {c} {q} from s h i v f (step {r′ = a} {c′ = b} e) =
-      let j = coloured-inside p r c (q .dp) i e in
-      inr (record {
-        target = regionAt p map a b;
-        state = s;
-        instruction = decodeOf from (colourAt p a b);
-        number = refl;
-        low = M .below (indexOf p a b) (index-in p a b j);
-        valid = h;
-        known = decode-small from (colourAt p a b);
-        node = coloured-node a b j (coloured-colour p r c (q .dp) e .1) (f _ beside);
-      })
-  attempt-leads {r} {c} {q} from s h i v f (glide {r′ = x} {c′ = y} {a = a} {b = b} {t = t} e d) =
-      let l = lands-at d (white-inside p r c (q .dp) i e) v in
-      inr (record {
-        target = regionAt p map a b;
-        state = stateNumber t;
-        instruction = 0;
-        number = refl;
-        low = M .below (indexOf p a b) (index-in p a b (l .place));
-        valid = number-small t (l .valid);
-        known = lit≤ tt;
-        node = coloured-node a b (l .place) (l .not-white) (f _ landing);
-      })
-  attempt-leads from s h i v f (lost e d) = inl refl
+  pub opens-leads : {r target i : ℕ} {q u : PointerState} → Found p map r → Valid q → Opens p map r q target u i → Leads p map n target u i
+  opens-leads f v o =
+      let x = reached S long v o in
+      let l = x .lands in
+      record {
+        low = subst (λ (t : ℕ). t < n) (x .own) (M .below (indexOf p (x .row) (x .col)) (index-in p (x .row) (x .col) (l .place)));
+        valid = l .valid;
+        known = opens-known o;
+        node = subst (Node p map) (x .own) (coloured-node (x .row) (x .col) (l .place) (l .not-white) (subst (Found p map) (sym (x .own)) (opens-found f v o)));
+      }
 
-  pub exit-cases : {r s x : ℕ} → length map ≡ codels p → s < 8 → Exit p map r s x → (x ≡ 0) ⊎ Leads p map n x
-  exit-cases {s = s} long h (node N t) =
-      attempt-leads _ s h (inside-of S (t .codel) (omega (arith, t .leaves .codel))) (valid-number s h) (λ q a. next (N .found) h t a) (t .way)
-  exit-cases long h (no-node N) = inl refl
+  few : n ≤ 65536
+  few = omega (arith, map-few (gridOf p) map n M, S .few)
 
-  pub leads-small : {x : ℕ} → Leads p map n x → x ≤ 9437184
-  leads-small l = omega (arith, l .number, l .low, l .valid, l .known, map-few (gridOf p) map n M, S .few)
+  none-fits : (0 ≤ largestExit) × (targetOf 0 < n)
+  none-fits = (omega arith, omega (arith, M .below 0 (first-in S)))
+
+  fits : {r x : ℕ} {q : PointerState} → Valid q → Exit p map r q x → (x ≤ largestExit) × (targetOf x < n)
+  fits v (no-node a) = none-fits
+  fits v (shut a s) = none-fits
+  fits v (leads {target = target} {i = i} {u = u} a o) =
+      let l = opens-leads (a .found) v o in
+      let t : target < 65536 = omega (arith, l .low, few) in
+      let k = number-small u (l .valid) in
+      (in-range target (stateNumber u) i t k (l .known), rw (target-back target (stateNumber u) i t k) (l .low))
 
 -- the exits of a table
-pub exit-leads : {p : Picture} {map rows exits work : List ℕ} {n : ℕ} → Sound p → Builds p map rows exits work n → (r s : ℕ) → r < n → s < 8
-    → (getD exits (exitCell r s) 0 ≡ 0) ⊎ Leads p map n (getD exits (exitCell r s) 0)
-exit-leads S B r s h k = exit-cases S (B .regions) (B .map-long) k (B .exit r s h k)
+pub exit-fits : {p : Picture} {map rows exits work : List ℕ} {n : ℕ} → Sound p → Builds p map rows exits work n → (r s : ℕ) → r < n → s < 8
+    → (exitAt exits r s ≤ largestExit) × (targetOf (exitAt exits r s) < n)
+exit-fits S B r s h k = fits S (B .regions) (B .map-long) (valid-number s k) (B .exit r s h k)

@@ -1,25 +1,46 @@
--- An attempt of a region has one codel to leave by and one way. Assumes nothing.
+-- Where the attempts of a found region lead, and what the colour of a region is.
+--     opens-found      an open attempt leads to a found region
+--     number-exit      what the code makes of a node's attempt is its exit
+--     joined-colour    joined codels have one colour
+-- Assumes nothing.
 use mathlib.Core.Path.{_≡_, refl, sym, subst, _∙_}
 use mathlib.Core.List.{List}
-use Prim.Native.Nat.{ℕ, _/_, _%_, _<_}
+use Prim.Native.Nat.{ℕ, _<_}
+use native.Mathlib.Omega.{arith}
 use lib.ListN.{length}
-use Rattle.flow.specs.Pointer.{ofNumber}
+use Rattle.flow.specs.Pointer.{Valid, stateNumber, ofNumber}
 use Rattle.flow.proofs.Order.{valid-number}
-use Rattle.cfg.specs.Nodes.{Tried}
-use Rattle.picture.specs.Picture.{Picture, colsOf, codels}
+use Rattle.flow.specs.declared.PointerState.{PointerState}
+use Rattle.colour.specs.Decode.{decodeOf}
+use Rattle.picture.specs.Picture.{Picture, colsOf, codels, colourAt, codelColour}
 use Rattle.region.specs.Grid.{Grid}
 use Rattle.region.specs.Region.{Joined, here, on}
+use Rattle.table.specs.ExitNumber.{exitNumber}
 use Rattle.exit.specs.declared.attempt.Way.{Way}
-use Rattle.exit.specs.Attempt.{Attempt}
-use Rattle.exit.proofs.Only.{leaving-only, attempt-only}
+use Rattle.exit.specs.declared.attempt.Way.the-variants.{Closed, Step, Astray, Glide}
+use Rattle.exit.specs.Opens.{regionAt, Tried, Opens, beside, across}
+use Rattle.exit.proofs.Opening.{closed-shut, astray-shut}
+use Rattle.cfg.specs.Nodes.{Found, next, Node}
+use Rattle.cfg.specs.Nodes as nodes
+use Rattle.cfg.specs.Table.{Exit, shut, leads}
+use Rattle.cfg.specs.Search.{wayNumber, Number}
 
-pub same-codel : {p : Picture} {map : List ℕ} {r s : ℕ} {w w′ : Way} → 0 < colsOf p → length map ≡ codels p → s < 8 → (a : Tried p map r s w) (b : Tried p map r s w′) → a .codel ≡ b .codel
-same-codel {p} {map} {r} {s} h l k a b =
-    leaving-only h l (valid-number s k) (a .leaves) (b .leaves)
+pub opens-found : {p : Picture} {map : List ℕ} {r target i : ℕ} {q u : PointerState} → Found p map r → Valid q → Opens p map r q target u i → Found p map target
+opens-found f v (beside t) = next f v t nodes.beside
+opens-found f v (across t) = next f v t nodes.landing
 
-pub same-way : {p : Picture} {map : List ℕ} {r s : ℕ} {w w′ : Way} → 0 < colsOf p → length map ≡ codels p → s < 8 → Tried p map r s w → Tried p map r s w′ → w ≡ w′
-same-way {p} {map} {r} {s} {w} {w′} h l k a b =
-    attempt-only (a .way) (subst (λ (i : ℕ). Attempt p (i / colsOf p) (i % colsOf p) (ofNumber s) w′) (sym (same-codel h l k a b)) (b .way))
+module _ {p : Picture} {map : List ℕ} {r s : ℕ} (h : 0 < colsOf p) (l : length map ≡ codels p) (k : s < 8) (N : Node p map r) where
+  way-exit : (w : Way) (t : Tried p map r (ofNumber s) w) → Exit p map r (ofNumber s) (wayNumber p map (codelColour p (t .codel)) s w)
+  unfolding wayNumber
+  way-exit Closed t = shut N (closed-shut h l (valid-number s k) t)
+  way-exit (Astray a b) t = shut N (astray-shut h l (valid-number s k) t)
+  way-exit (Step a b) t =
+      let e : stateNumber (ofNumber s) ≡ s = omega arith in
+      subst (λ (z : ℕ). Exit p map r (ofNumber s) (exitNumber (regionAt p map a b) z (decodeOf (codelColour p (t .codel)) (colourAt p a b)))) e (leads N (beside t))
+  way-exit (Glide a b c d u) t = leads N (across t)
+
+  pub number-exit : {x : ℕ} → Number p map r s x → Exit p map r (ofNumber s) x
+  number-exit n = subst (Exit p map r (ofNumber s)) (sym (n .number)) (way-exit (n .way) (n .tried))
 
 -- joined codels have one colour
 pub joined-colour : {g : Grid} {i j : ℕ} → Joined g i j → g .colour i ≡ g .colour j

@@ -17,7 +17,11 @@ use Rattle.cfg.specs.Search.{mark, Visit, Queue, Onward, Settled, Severa
 use Rattle.table.specs.Layout.{rowCell, exitCell}
 use Rattle.picture.specs.Picture.{Picture, codels}
 use Rattle.picture.proofs.Codels.{first-in, cols-pos}
-use Rattle.cfg.proofs.NodeLaws.{same-way}
+use Rattle.flow.specs.Pointer.{stateNumber}
+use Rattle.flow.proofs.Order.{of-number, number-small}
+use Rattle.flow.specs.declared.PointerState.{PointerState}
+use Rattle.exit.specs.Opens.{Tried}
+use Rattle.exit.proofs.Opening.{same-way}
 use Rattle.cfg.proofs.Queueing.{queue-none, visited}
 use Rattle.cfg.proofs.Trying.{settled-on}
 
@@ -129,9 +133,9 @@ module _ {p : Picture} {map rowsᵉ exitsᵉ workᵉ rows₀ work₀ : List ℕ}
     -- every found region is marked
     complete : {r : ℕ} → Found p map r → mark rows r ≡ 1
     complete entry = S .start
-    complete (next {r = r} {s = s} {q = q} {w = w} f h t a) =
-        let d = done r (complete f) s h in
-        let e = same-way (cols-pos (R .grounds .sound)) (R .grounds .long) h t (d .is .tried) in
+    complete (next {r = r} {q = q} {s = s} f v t a) =
+        let d = done r (complete f) (stateNumber s) (number-small s v) in
+        let e = same-way (cols-pos (R .grounds .sound)) (R .grounds .long) v t (subst (λ (z : PointerState). Tried p map r z (d .is .way)) (of-number s v) (d .is .tried)) in
         d .marked q (subst (λ (x : _). Adds p map x q) e a)
 
     -- every marked region is found

@@ -17,9 +17,8 @@ use lib.Seq.{drop-length}
 use Rattle.base.specs.Lent.{filled}
 use Rattle.base.proofs.Over.{filled-zero}
 use Rattle.flow.specs.Pointer.{ofNumber}
-use Rattle.flow.proofs.Order.{valid-number}
 use Rattle.cfg.specs.Nodes.{Adds, beside, astray, over, landing, Found, entry, next, Node}
-use Rattle.cfg.specs.Table.{Marks, is, none, Row, Exit, node, no-node, Builds}
+use Rattle.cfg.specs.Table.{Marks, is, none, Row, Exit, no-node, Builds}
 use Rattle.cfg.specs.Search.{mark, InGrid, Grounds, Occurs, Begun, Ready, Searched, isNode, Kept, stays, goes, Cleared}
 use Rattle.table.specs.Layout.{rowCell, markField, colourField, exitCell, rowsRoom, exitsRoom}
 use Rattle.picture.specs.Picture.{Picture, rowsOf, colsOf, codels, codelColour}
@@ -29,7 +28,7 @@ use Rattle.exit.specs.Keeping.{Mapped, AllKept, cellOf}
 use Rattle.region.proofs.MapLaws.{map-low}
 use Rattle.region.specs.Rows.{Blank}
 use Rattle.picture.proofs.Codels.{cols-pos, first-in, inside-of}
-use Rattle.cfg.proofs.NodeLaws.{joined-colour}
+use Rattle.cfg.proofs.NodeLaws.{joined-colour, number-exit}
 use Rattle.region.specs.Grid.{gridOf}
 use Rattle.cfg.proofs.Queueing.{region-occurs}
 use Rattle.cfg.proofs.Trying.{placed}
@@ -106,7 +105,7 @@ module _ {p : Picture} {map : List ℕ} {n : ℕ} {rows : List ℕ} (B : Begun p
     own = omega (arith, map-low (gridOf p) map n (B .regions) 0 (first-in (B .sound)));
   }
   found-occurs (next {q = q} {w = w} f h t a) =
-      added w q (placed (inside-of (B .sound) (t .codel) (omega (arith, t .leaves .codel, B .map-long))) (valid-number _ h) (t .way)) a
+      added w q (placed (inside-of (B .sound) (t .codel) (omega (arith, t .leaves .codel, B .map-long))) h (t .way)) a
     where
       added : (w : Way) (q : ℕ) → InGrid p w → Adds p map w q → Occurs map q
       added w q i (beside {a = a} {b = b}) = region-occurs grounds a b i
@@ -180,12 +179,11 @@ module _ {p : Picture} {map : List ℕ} {n : ℕ} {rows : List ℕ} (B : Begun p
     node-mark r h (stays e m x) = let d = is-node r h e in subst (Marks (Node p map r)) (sym (m ∙ d .1)) (is (d .0))
     node-mark r h (goes e m x) = subst (Marks (Node p map r)) (sym m) (none (never-node r h e))
 
-    exit-at : (r s : ℕ) → r < n → s < 8 → Kept r rows′ exits′ rows″ exits″ → Exit p map r s (getD exits″ (exitCell r s) 0)
+    exit-at : (r s : ℕ) → r < n → s < 8 → Kept r rows′ exits′ rows″ exits″ → Exit p map r (ofNumber s) (getD exits″ (exitCell r s) 0)
     exit-at r s h i (stays e m x) =
         let d = is-node r h e in
-        let a = S .settled r (d .0 .found) s i in
-        subst (Exit p map r s) (sym (x s i ∙ a .number)) (node (d .0) (a .tried))
-    exit-at r s h i (goes e m x) = subst (Exit p map r s) (sym (x s i)) (no-node (never-node r h e))
+        subst (Exit p map r (ofNumber s)) (sym (x s i)) (number-exit (cols-pos (B .sound)) (B .map-long) i (d .0) (S .settled r (d .0 .found) s i))
+    exit-at r s h i (goes e m x) = subst (Exit p map r (ofNumber s)) (sym (x s i)) (no-node (never-node r h e))
 
     row-at : (r : ℕ) → r < n → Row p map rows″ r
     row-at r h =

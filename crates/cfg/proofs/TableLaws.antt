@@ -7,14 +7,16 @@ use native.Mathlib.Decide.{decLt}
 use native.Mathlib.Omega.{arith}
 use lib.ListN.{length, getD, drop, drop-of-length-le}
 use lib.Seq.{ext-getD}
-use Rattle.cfg.specs.Nodes.{wayNumber}
-use Rattle.cfg.specs.Table.{Marks, is, none, Row, Exit, node, no-node, Builds}
+use Rattle.flow.specs.Pointer.{Valid, stateNumber}
+use Rattle.flow.proofs.Order.{valid-number}
+use Rattle.flow.specs.declared.PointerState.{PointerState}
+use Rattle.cfg.specs.Table.{Marks, is, none, Row, Exit, no-node, shut, leads, Builds}
 use Rattle.table.specs.Layout.{rowCell}
 use Rattle.picture.specs.Picture.{Picture, colsOf, codels, codelColour}
 use Rattle.region.specs.Grid.{gridOf}
 use Rattle.region.proofs.MapLaws.{settled}
 use Rattle.region.proofs.RowLaws.{first-one}
-use Rattle.cfg.proofs.NodeLaws.{same-codel, same-way}
+use Rattle.exit.proofs.Opening.{opens-only}
 
 one-mark : {A : Type 0} {x y : ℕ} → Marks A x → Marks A y → x ≡ y
 one-mark (is a) (is b) = refl
@@ -23,13 +25,19 @@ one-mark (none a) (is b) = absurd (a b)
 one-mark (none a) (none b) = refl
 
 module _ {p : Picture} {map : List ℕ} (h : 0 < colsOf p) (l : length map ≡ codels p) where
-  one-exit : {r s x y : ℕ} → s < 8 → Exit p map r s x → Exit p map r s y → x ≡ y
-  one-exit {r} {s} k (node {w = w} a t) (node {w = w′} b u) =
-      ap (λ (i : ℕ). wayNumber p map (codelColour p i) s w) (same-codel h l k t u)
-      ∙ ap (wayNumber p map (codelColour p (u .codel)) s) (same-way h l k t u)
-  one-exit k (node a t) (no-node b) = absurd (b a)
-  one-exit k (no-node a) (node b u) = absurd (a b)
-  one-exit k (no-node a) (no-node b) = refl
+  one-exit : {r x y : ℕ} {q : PointerState} → Valid q → Exit p map r q x → Exit p map r q y → x ≡ y
+  one-exit v (no-node a) (no-node b) = refl
+  one-exit v (no-node a) (shut b t) = refl
+  one-exit v (no-node a) (leads b t) = absurd (a b)
+  one-exit v (shut a s) (no-node b) = refl
+  one-exit v (shut a s) (shut b t) = refl
+  one-exit v (shut a s) (leads b t) = absurd (s .never _ _ _ t)
+  one-exit v (leads a s) (no-node b) = absurd (b a)
+  one-exit v (leads a s) (shut b t) = absurd (t .never _ _ _ s)
+  one-exit v (leads {u = u} a s) (leads {u = u′} b t) =
+      let o = opens-only h l v s t in
+      let e : stateNumber u ≡ stateNumber u′ = ap stateNumber (o .1) in
+      omega (arith, o .0, o .2)
 
   one-row : {rows rows′ : List ℕ} (r : ℕ) → Row p map rows r → Row p map rows′ r → (c : ℕ) → c < 5 → getD rows (rowCell r c) 0 ≡ getD rows′ (rowCell r c) 0
   one-row {rows} {rows′} r a b = cells
@@ -62,7 +70,7 @@ module _ {p : Picture} (h : 0 < colsOf p) {map rows exits work rows′ exits′ 
       (λ i.
       let e : 8 * (k / 8) + k % 8 ≡ k = omega arith in
       let c : k % 8 < 8 = omega arith in
-      subst (λ (x : ℕ). getD exits x 0 ≡ getD exits′ x 0) e (one-exit h (a .map-long) c (a .exit (k / 8) (k % 8) i c) (b .exit (k / 8) (k % 8) i c)))
+      subst (λ (x : ℕ). getD exits x 0 ≡ getD exits′ x 0) e (one-exit h (a .map-long) (valid-number (k % 8) c) (a .exit (k / 8) (k % 8) i c) (b .exit (k / 8) (k % 8) i c)))
       (λ i. let o : 8 * n ≤ k = omega arith in a .exits-rest k o ∙ sym (b .exits-rest k o)))
 
 -- a picture has one table

@@ -12,9 +12,10 @@ use native.Mathlib.Omega.{arith}
 use lib.ListN.{length, getD, set, length-set}
 use lib.Seq.{getD-set-same, getD-set-other}
 use Rattle.flow.specs.Pointer.{Valid, stateNumber, ofNumber}
+use Rattle.flow.proofs.Order.{valid-number}
 use Rattle.flow.specs.declared.PointerState.{PointerState}
-use Rattle.cfg.specs.Nodes.{Tried, wayNumber, Found, next}
-use Rattle.cfg.specs.Search.{mark, Queued, InGrid, Grounds, Queue, Settled, Tries, Several, Taken}
+use Rattle.cfg.specs.Nodes.{Found, next}
+use Rattle.cfg.specs.Search.{wayNumber, mark, Queued, InGrid, Grounds, Queue, Settled, Tries, Several, Taken}
 use Rattle.table.specs.Layout.{exitCell, exitsRoom}
 use Rattle.exit.specs.declared.attempt.Way.{Way}
 use Rattle.exit.specs.declared.attempt.Way.the-variants.{Step, Glide}
@@ -24,6 +25,7 @@ use Rattle.exit.specs.Attempt.{Attempt, shut, step, glide, lost}
 use Rattle.exit.proofs.SlideLaws.{white-inside, coloured-inside}
 use Rattle.exit.proofs.SlideEnds.{landing}
 use Rattle.exit.specs.Leaving.{LeavesBy}
+use Rattle.exit.specs.Opens.{Tried}
 use Rattle.picture.proofs.Codels.{inside-of}
 use Rattle.table.specs.ExitNumber.{exitNumber}
 use Rattle.cfg.proofs.Queueing.{at-in, region-low, queued, onward-none, onward-more}
@@ -43,8 +45,8 @@ pub tries : {p : Picture} {map : List ℕ} {r s i v : ℕ} {w : Way} {rows exits
     → v ≡ wayNumber p map (codelColour p i) s w → Queued map (colsOf p) rows work tail w rows′ work′ tail′
     → Tries p map r s rows exits work tail rows′ (set exits (exitCell r s) v) work′ tail′
 tries {p} {map} {r} {s} {i} {v} {w} G f Q long h l a inside e d =
-    let t : Tried p map r s w = record { codel = i; leaves = l; way = a } in
-    let x = queued G Q long inside (λ q z. next f h t z) d in
+    let t : Tried p map r (ofNumber s) w = record { codel = i; leaves = l; way = a } in
+    let x = queued G Q long inside (λ q z. next f (valid-number s h) t z) d in
     record {
       onward = x .0;
       value = v;

@@ -7,12 +7,13 @@ use mathlib.Core.List.{List}
 use Prim.Native.Nat.{ℕ, zero, suc, _+_, _*_, _/_, _<_, _≤_}
 use lib.Dec.{eqb}
 use lib.ListN.{length, getD, set}
-use Rattle.flow.specs.Pointer.{Valid, ofNumber}
+use Rattle.flow.specs.Pointer.{Valid, stateNumber, ofNumber}
 use Rattle.flow.specs.declared.PointerState.{PointerState}
-use Rattle.cfg.specs.Nodes.{Tried, wayNumber, Adds, Found}
+use Rattle.cfg.specs.Nodes.{Adds, Found}
 use Rattle.cfg.specs.Table.{Marks}
 use Rattle.colour.specs.Palette.{white}
-use Rattle.picture.specs.Picture.{Picture, Inside, rowsOf, colsOf, codels, codelColour, Sound}
+use Rattle.colour.specs.Decode.{decodeOf}
+use Rattle.picture.specs.Picture.{Picture, Inside, rowsOf, colsOf, codels, colourAt, codelColour, Sound}
 use Rattle.table.specs.Layout.{colourField, markField, rowCell, exitCell, rowsRoom, exitsRoom}
 use Rattle.region.specs.Tally.{more}
 use Rattle.region.specs.Grid.{gridOf}
@@ -21,6 +22,8 @@ use Rattle.region.specs.Rows.{IsTable}
 use Rattle.exit.specs.declared.attempt.Way.{Way}
 use Rattle.exit.specs.declared.attempt.Way.the-variants.{Closed, Step, Astray, Glide}
 use Rattle.exit.specs.Leaving.{LeavesBy}
+use Rattle.exit.specs.Opens.{regionAt, Tried}
+use Rattle.table.specs.ExitNumber.{exitNumber}
 
 -- region r's mark
 abbrev pub mark : List ℕ → ℕ → ℕ
@@ -96,10 +99,17 @@ pub record Onward (p : Picture) (map rows work : List ℕ) (tail : ℕ) (rows′
   pub rows-length : length rows′ ≡ length rows
   pub work-length : length work′ ≡ length work
 
+-- what the code makes of a way, from a region of the colour `from` in state s: the number of its exit, 0 where it is not open
+unfoldable pub wayNumber : Picture → List ℕ → ℕ → ℕ → Way → ℕ
+wayNumber p map from s Closed = 0
+wayNumber p map from s (Astray a b) = 0
+wayNumber p map from s (Step a b) = exitNumber (regionAt p map a b) s (decodeOf from (colourAt p a b))
+wayNumber p map from s (Glide a b c d t) = exitNumber (regionAt p map c d) (stateNumber t) 0
+
 -- x is the number of region r's attempt in state s
 pub record Number (p : Picture) (map : List ℕ) (r s x : ℕ) : Type 0 where
   pub way : Way
-  pub tried : Tried p map r s way
+  pub tried : Tried p map r (ofNumber s) way
   pub number : x ≡ wayNumber p map (codelColour p (tried .codel)) s way
 
 -- and what the attempt adds is marked

@@ -3,14 +3,17 @@ use mathlib.Core.Path.{_≡_}
 use mathlib.Core.List.{List}
 use Prim.Native.Nat.{ℕ, _*_, _/_, _%_, _<_, _≤_}
 use lib.ListN.{length, getD, replicate}
-use Rattle.cfg.specs.Nodes.{Tried, wayNumber, Node}
+use Rattle.flow.specs.Pointer.{stateNumber, ofNumber}
+use Rattle.flow.specs.declared.PointerState.{PointerState}
+use Rattle.cfg.specs.Nodes.{Node}
 use Rattle.picture.specs.Picture.{Picture, colsOf, codels, codelColour}
-use Rattle.table.specs.Layout.{colourField, sizeField, rowField, columnField, markField, rowCell, exitCell, rowsRoom, exitsRoom}
+use Rattle.table.specs.Layout.{colourField, sizeField, rowField, columnField, markField, rowCell, rowsRoom, exitsRoom, exitAt}
+use Rattle.table.specs.ExitNumber.{exitNumber}
 use Rattle.region.specs.Grid.{gridOf}
 use Rattle.region.specs.Region.{IsMap}
 use Rattle.region.specs.Rows.{First}
 use Rattle.region.specs.Tally.{tally}
-use Rattle.exit.specs.declared.attempt.Way.{Way}
+use Rattle.exit.specs.Opens.{Opens, Shut}
 
 -- 1 where A holds, 0 where it does not
 pub data Marks (A : Type 0) : ℕ → Type 0 where
@@ -28,10 +31,13 @@ pub record Row (p : Picture) (map rows : List ℕ) (r : ℕ) : Type 0 where
   pub column : getD rows (rowCell r columnField) 0 ≡ first % colsOf p * p .codel
   pub node : Marks (Node p map r) (getD rows (rowCell r markField) 0)
 
--- region r's exit in state s: "0 where the row is no node or the attempt is not open", else its number
-pub data Exit (p : Picture) (map : List ℕ) (r s : ℕ) : ℕ → Type 0 where
-  node : {w : Way} → Node p map r → (t : Tried p map r s w) → Exit p map r s (wayNumber p map (codelColour p (t .codel)) s w)
-  no-node : (Node p map r → ⊥) → Exit p map r s 0
+-- region r's exit in the state q
+pub data Exit (p : Picture) (map : List ℕ) (r : ℕ) (q : PointerState) : ℕ → Type 0 where
+  -- "0 where the row is no node or the attempt is not open"
+  no-node : (Node p map r → ⊥) → Exit p map r q 0
+  shut : Node p map r → Shut p map r q → Exit p map r q 0
+  -- else "1 + target + 65,536 x new state + 524,288 x instruction"
+  leads : {target i : ℕ} {u : PointerState} → Node p map r → Opens p map r q target u i → Exit p map r q (exitNumber target (stateNumber u) i)
 
 -- the whole table of n regions, in the room that it needs; the work slice is left 0
 pub record Builds (p : Picture) (map rows exits work : List ℕ) (n : ℕ) : Type 0 where
@@ -40,7 +46,7 @@ pub record Builds (p : Picture) (map rows exits work : List ℕ) (n : ℕ) : Typ
   pub exits-long : length exits ≡ exitsRoom (codels p)
   pub regions : IsMap (gridOf p) map n
   pub row : (r : ℕ) → r < n → Row p map rows r
-  pub exit : (r s : ℕ) → r < n → s < 8 → Exit p map r s (getD exits (exitCell r s) 0)
+  pub exit : (r s : ℕ) → r < n → s < 8 → Exit p map r (ofNumber s) (exitAt exits r s)
   pub rows-rest : (k : ℕ) → rowsRoom n ≤ k → getD rows k 0 ≡ 0
   pub exits-rest : (k : ℕ) → exitsRoom n ≤ k → getD exits k 0 ≡ 0
   pub work-zero : work ≡ replicate (codels p) 0

@@ -1,7 +1,7 @@
 // What is not a node loses its mark and its exits.
 ghost use mathlib.Core.Path.{_≡_};
-ghost use Prim.Native.Nat.{_+_, _*_, _<_, _≤_};
-ghost use lib.ListN.{length, getD};
+ghost use Prim.Native.Nat.{_+_, _<_, _≤_};
+ghost use lib.ListN.{length};
 ghost use Rattle.table.specs.Layout.{rowsRoom, exitsRoom};
 ghost use Rattle.cfg.specs.Search.{isNode, Keeps, Zeros, Cleared};
 use table::COLOUR;

@@ -1,17 +1,15 @@
 // The search for nodes, breadth first from region 0: each found region's exits are settled as it is
 // taken from the queue.
 ghost use mathlib.Core.Path.{_≡_};
-ghost use mathlib.Core.List.{_++_};
-ghost use mathlib.Core.Logic.{_≢_};
-ghost use Prim.Native.Nat.{ℕ, _+_, _*_, _/_, _%_, _<_, _≤_};
+ghost use Prim.Native.Nat.{_+_, _*_, _/_, _%_, _<_, _≤_};
 ghost use lib.ListN.{length, getD};
-ghost use Rattle.flow.specs.Pointer.{Valid, ofNumber};
+ghost use Rattle.flow.specs.Pointer.{ofNumber};
 ghost use Rattle.picture.specs.Picture.{pictureOf, rowsOf, colsOf, codels, Frames};
 ghost use Rattle.table.specs.ExitNumber.{exitNumber};
 ghost use Rattle.table.specs.Layout.{exitCell, exitsRoom};
 ghost use Rattle.exit.specs.Leaving.{LeavesBy};
-ghost use Rattle.cfg.specs.Nodes.{Found, wayNumber};
-ghost use Rattle.cfg.specs.Search.{Room, Visit, Queued, InGrid, Grounds, Occurs, Queue, Tries, Several, Taken, Ready, Searched};
+ghost use Rattle.cfg.specs.Nodes.{Found};
+ghost use Rattle.cfg.specs.Search.{wayNumber, Room, Visit, Queued, InGrid, Grounds, Queue, Tries, Several, Taken, Ready, Searched};
 use exit::attempt::Way;
 use exit::attempt::attempt_from;
 use flow::PointerState;

@@ -1,8 +1,10 @@
 -- What the layers above cite, and the laws that belong to no one function.
 pub mod Only
 pub mod SlideLaws
+pub mod TrailLaws
 pub mod Sliding
 pub mod SlideEnds
+pub mod Opening
 pub mod LeavingLaws
 pub mod KeepingLaws
 pub mod Page

@@ -4,7 +4,7 @@ use mathlib.Core.Path.{_≡_, refl, sym, subst, _∙_}
 use mathlib.Core.Bool.{Bool, true, false}
 use mathlib.Core.Logic.{_⊎_, inl, inr}
 use mathlib.Core.List.{List}
-use Prim.Native.Nat.{ℕ, zero, suc, _*_, _/_, _%_, _<_, _≤_}
+use Prim.Native.Nat.{ℕ, zero, suc, _*_, _/_, _%_, _<_}
 use native.Mathlib.Omega.{arith}
 use borrow.Author.Tests.{eqb-true, eqb-false}
 use lib.Dec.{eqb}
@@ -18,7 +18,8 @@ use Rattle.exit.specs.declared.slide.Sight.{Sight}
 use Rattle.exit.specs.declared.slide.Sight.the-variants.{White}
 use Rattle.exit.specs.declared.slide.Slid.{Slid}
 use Rattle.exit.specs.declared.attempt.Way.{Way}
-use Rattle.exit.specs.Slide.{mostTurns, Slide, lost, turn, move, land}
+use Rattle.exit.specs.Trail.{Trail, Rule}
+use Rattle.exit.specs.Slide.{Slide, lost, turn, move, land, Ends}
 use Rattle.exit.specs.Attempt as attempts
 use Rattle.exit.specs.Attempt.{Attempt, shut, step, glide}
 use Rattle.exit.specs.Leaving.{LeavesBy}
@@ -26,36 +27,38 @@ use Rattle.exit.specs.Keeping.{cellOf, AllKept}
 use Rattle.exit.proofs.LeavingLaws.{neither}
 use Rattle.base.proofs.Clash.{clash}
 
--- the turns are all made, and are not
-over : {n : ℕ} {A : Type 0} → mostTurns ≤ n → n < mostTurns → A
-over {n} h k = absurd (none h k)
-  where
-    none : mostTurns ≤ n → n < mostTurns → ⊥
-    none h k = omega arith
-
 -- two white codels that one look sees are one
-same-codel : {p : Picture} {x : Sight} {a b a′ b′ n : ℕ} {s : PointerState} {o : Slid} → x ≡ White a b → x ≡ White a′ b′ → Slide p a′ b′ s n o → Slide p a b s n o
-same-codel {p} {a = a} {b′ = b′} {n = n} {s = s} {o = o} e f d =
-    subst (λ (y : ℕ). Slide p a y s n o) (cc) (subst (λ (x : ℕ). Slide p x b′ s n o) (cc) d)
+same-codel : {p : Picture} {rule : Rule} {past t : Trail} {x : Sight} {a b a′ b′ : ℕ} {s : PointerState} {o : Slid}
+    → x ≡ White a b → x ≡ White a′ b′ → Slide p rule past a′ b′ s t o → Slide p rule past a b s t o
+same-codel {p} {rule} {past} {t} {a = a} {b′ = b′} {s = s} {o = o} e f d =
+    subst (λ (y : ℕ). Slide p rule past a y s t o) (cc) (subst (λ (x : ℕ). Slide p rule past x b′ s t o) (cc) d)
 
--- a slide has one outcome
-pub slide-only : {p : Picture} {r c : ℕ} {s : PointerState} {n : ℕ} {o o′ : Slid} → Slide p r c s n o → Slide p r c s n o′ → o ≡ o′
-slide-only (lost h) (lost k) = refl
-slide-only (lost h) (turn k f d′) = over h k
-slide-only (lost h) (move k f d′) = over h k
-slide-only (lost h) (land k f) = over h k
-slide-only (turn h e d) (lost k) = over k h
+-- a slide has one trail and one end, whatever its rule
+pub slide-only : {p : Picture} {rule : Rule} {past t t′ : Trail} {r c : ℕ} {s : PointerState} {o o′ : Slid}
+    → Slide p rule past r c s t o → Slide p rule past r c s t′ o′ → (t ≡ t′) × (o ≡ o′)
+slide-only (lost h) (lost k) = (refl, refl)
+slide-only (lost h) (turn k f d′) = clash (cc)
+slide-only (lost h) (move k f d′) = clash (cc)
+slide-only (lost h) (land k f) = clash (cc)
+slide-only (turn h e d) (lost k) = clash (cc)
 slide-only (turn h e d) (turn k f d′) = slide-only d d′
 slide-only (turn h e d) (move k f d′) = clash (cc)
 slide-only (turn h e d) (land k f) = clash (cc)
-slide-only (move h e d) (lost k) = over k h
+slide-only (move h e d) (lost k) = clash (cc)
 slide-only (move h e d) (turn k f d′) = clash (cc)
 slide-only (move h e d) (move k f d′) = slide-only d (same-codel e f d′)
 slide-only (move h e d) (land k f) = clash (cc)
-slide-only (land h e) (lost k) = over k h
+slide-only (land h e) (lost k) = clash (cc)
 slide-only (land h e) (turn k f d′) = clash (cc)
 slide-only (land h e) (move k f d′) = clash (cc)
-slide-only (land h e) (land k f) = cc
+slide-only (land h e) (land k f) = (refl, cc)
+
+pub ends-only : {p : Picture} {rule : Rule} {r c : ℕ} {s : PointerState} {o o′ : Slid} → Ends p rule r c s o → Ends p rule r c s o′ → o ≡ o′
+ends-only x y = slide-only (x .slides) (y .slides) .1
+
+same-end : {p : Picture} {rule : Rule} {x : Sight} {a b a′ b′ : ℕ} {s : PointerState} {o : Slid}
+    → x ≡ White a b → x ≡ White a′ b′ → Ends p rule a′ b′ s o → Ends p rule a b s o
+same-end e f d = record { trail = d .trail; slides = same-codel e f (d .slides) }
 
 -- an attempt has one outcome
 pub attempt-only : {p : Picture} {r c : ℕ} {s : PointerState} {w w′ : Way} → Attempt p r c s w → Attempt p r c s w′ → w ≡ w′
@@ -69,11 +72,11 @@ attempt-only (step e) (glide f d′) = clash (cc)
 attempt-only (step e) (attempts.lost f d′) = clash (cc)
 attempt-only (glide e d) (shut f) = clash (cc)
 attempt-only (glide e d) (step f) = clash (cc)
-attempt-only (glide e d) (glide f d′) = let q = slide-only d (same-codel e f d′) in cc
-attempt-only (glide e d) (attempts.lost f d′) = let q = slide-only d (same-codel e f d′) in clash (cc)
+attempt-only (glide e d) (glide f d′) = let q = ends-only d (same-end e f d′) in cc
+attempt-only (glide e d) (attempts.lost f d′) = let q = ends-only d (same-end e f d′) in clash (cc)
 attempt-only (attempts.lost e d) (shut f) = clash (cc)
 attempt-only (attempts.lost e d) (step f) = clash (cc)
-attempt-only (attempts.lost e d) (glide f d′) = let q = slide-only d (same-codel e f d′) in clash (cc)
+attempt-only (attempts.lost e d) (glide f d′) = let q = ends-only d (same-end e f d′) in clash (cc)
 attempt-only (attempts.lost e d) (attempts.lost f d′) = cc
 
 -- a region has one codel to leave by

@@ -8,7 +8,8 @@ use Rattle.exit.specs.declared.slide.Sight.the-variants.{Shut, White, Co
 use Rattle.exit.specs.declared.slide.Slid.the-variants.{Landed, Lost}
 use Rattle.exit.specs.declared.attempt.Way.{Way}
 use Rattle.exit.specs.declared.attempt.Way.the-variants.{Closed, Step, Astray, Glide}
-use Rattle.exit.specs.Slide.{lookOf, Slide}
+use Rattle.exit.specs.Trail.{eighthTurn}
+use Rattle.exit.specs.Slide.{lookOf, Ends}
 
 -- from codel (r, c) in state s; "the boundary is one codel further"
 pub data Attempt (p : Picture) (r c : ℕ) (s : PointerState) : Way → Type 0 where
@@ -17,7 +18,7 @@ pub data Attempt (p : Picture) (r c : ℕ) (s : PointerState) : Way → Type 0 w
   -- "A coloured boundary gives its region, the same state"
   step : {r′ c′ : ℕ} → lookOf p r c (s .dp) ≡ Coloured r′ c′ → Attempt p r c s (Step r′ c′)
   -- "A white boundary starts a slide", and it lands
-  glide : {r′ c′ a b : ℕ} {t : PointerState} → lookOf p r c (s .dp) ≡ White r′ c′ → Slide p r′ c′ s 0 (Landed a b t)
+  glide : {r′ c′ a b : ℕ} {t : PointerState} → lookOf p r c (s .dp) ≡ White r′ c′ → Ends p eighthTurn r′ c′ s (Landed a b t)
       → Attempt p r c s (Glide r′ c′ a b t)
   -- or it is lost, and "the attempt is not open"
-  lost : {r′ c′ : ℕ} → lookOf p r c (s .dp) ≡ White r′ c′ → Slide p r′ c′ s 0 Lost → Attempt p r c s (Astray r′ c′)
+  lost : {r′ c′ : ℕ} → lookOf p r c (s .dp) ≡ White r′ c′ → Ends p eighthTurn r′ c′ s Lost → Attempt p r c s (Astray r′ c′)

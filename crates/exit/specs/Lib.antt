@@ -1,5 +1,7 @@
--- The slide, one attempt, the codel to leave by, and the table of these.
+-- The slide, one attempt, the codel to leave by, the table of these, and what a region's attempt comes to.
+pub mod Trail
 pub mod Slide
 pub mod Attempt
 pub mod Leaving
 pub mod Keeping
+pub mod Opens

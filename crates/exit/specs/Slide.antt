@@ -1,8 +1,9 @@
 -- What is ahead of a codel, and the slide over white (document 01, "Regions and exits"; the page, "Start and motion").
 -- Assumes nothing.
 use mathlib.Core.Path.{_≡_}
-use mathlib.Core.Bool.{cond}
-use Prim.Native.Nat.{ℕ, _+_, _<_, _≤_}
+use mathlib.Core.Bool.{true, false, cond}
+use mathlib.Core.List.{[], _∷_}
+use Prim.Native.Nat.{ℕ}
 use lib.Dec.{eqb}
 use Rattle.colour.specs.Palette.{black, white}
 use Rattle.flow.specs.Pointer.{turnedOnce}
@@ -15,6 +16,7 @@ use Rattle.exit.specs.declared.slide.Sight.{Sight}
 use Rattle.exit.specs.declared.slide.Sight.the-variants.{Shut, White, Coloured}
 use Rattle.exit.specs.declared.slide.Slid.{Slid}
 use Rattle.exit.specs.declared.slide.Slid.the-variants.{Landed, Lost}
+use Rattle.exit.specs.Trail.{station, Trail, Rule}
 
 -- what codel (r, c) of a colour is seen as
 unfoldable pub seenAs : ℕ → ℕ → ℕ → Sight
@@ -29,20 +31,23 @@ seen p (Codel r c) = seenAs (colourAt p r c) r c
 unfoldable pub lookOf : Picture → ℕ → ℕ → ℕ → Sight
 lookOf p r c dp = seen p (aheadOf (rowsOf p) (colsOf p) r c dp)
 
--- "At the eighth turn, counted over the whole slide, the attempt is not open"
-abbrev pub mostTurns : ℕ
-mostTurns = 8
-
--- `Slide p r c s n o`: from codel (r, c), in state s and after n turns, the slide ends in o
-pub data Slide (p : Picture) : ℕ → ℕ → PointerState → ℕ → Slid → Type 0 where
-  -- the eighth turn was made
-  lost : {r c : ℕ} {s : PointerState} {n : ℕ} → mostTurns ≤ n → Slide p r c s n Lost
+-- `Slide p rule past r c s t o`: a slide that has had the stations `past` stands at codel (r, c) in state s; it ends in o, and
+-- its trail is then t
+pub data Slide (p : Picture) (rule : Rule) : Trail → ℕ → ℕ → PointerState → Trail → Slid → Type 0 where
+  -- by the rule this is the station at which it is lost
+  lost : {past : Trail} {r c : ℕ} {s : PointerState} → rule (station r c s ∷ past) ≡ true
+      → Slide p rule past r c s (station r c s ∷ past) Lost
   -- "Shut: dp turns clockwise, cc flips, one turn is counted"
-  turn : {r c : ℕ} {s : PointerState} {n : ℕ} {o : Slid} → n < mostTurns → lookOf p r c (s .dp) ≡ Shut
-      → Slide p r c (turnedOnce s) (n + 1) o → Slide p r c s n o
+  turn : {past t : Trail} {r c : ℕ} {s : PointerState} {o : Slid} → rule (station r c s ∷ past) ≡ false → lookOf p r c (s .dp) ≡ Shut
+      → Slide p rule (station r c s ∷ past) r c (turnedOnce s) t o → Slide p rule past r c s t o
   -- "White: move there"; the turns stay counted
-  move : {r c r′ c′ : ℕ} {s : PointerState} {n : ℕ} {o : Slid} → n < mostTurns → lookOf p r c (s .dp) ≡ White r′ c′
-      → Slide p r′ c′ s n o → Slide p r c s n o
+  move : {past t : Trail} {r c r′ c′ : ℕ} {s : PointerState} {o : Slid} → rule (station r c s ∷ past) ≡ false → lookOf p r c (s .dp) ≡ White r′ c′
+      → Slide p rule (station r c s ∷ past) r′ c′ s t o → Slide p rule past r c s t o
   -- "The slide stops at the first codel that is neither white nor shut, and gives that region, the present state"
-  land : {r c r′ c′ : ℕ} {s : PointerState} {n : ℕ} → n < mostTurns → lookOf p r c (s .dp) ≡ Coloured r′ c′
-      → Slide p r c s n (Landed r′ c′ s)
+  land : {past : Trail} {r c r′ c′ : ℕ} {s : PointerState} → rule (station r c s ∷ past) ≡ false → lookOf p r c (s .dp) ≡ Coloured r′ c′
+      → Slide p rule past r c s (station r c s ∷ past) (Landed r′ c′ s)
+
+-- the slide from codel (r, c) in state s ends in o: its trail begins there
+pub record Ends (p : Picture) (rule : Rule) (r c : ℕ) (s : PointerState) (o : Slid) : Type 0 where
+  pub trail : Trail
+  pub slides : Slide p rule [] r c s trail o

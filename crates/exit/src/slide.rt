@@ -2,7 +2,8 @@
 ghost use mathlib.Core.Path.{_≡_};
 ghost use Rattle.flow.specs.Pointer.{Valid};
 ghost use Rattle.picture.specs.Picture.{pictureOf, Frames, Inside};
-ghost use Rattle.exit.specs.Slide.{lookOf, Slide};
+ghost use Rattle.exit.specs.Slide.{lookOf, Ends};
+ghost use Rattle.exit.specs.Trail.{eighthTurn};
 use colour::palette::BLACK;
 use colour::palette::WHITE;
 use flow::Beyond;
@@ -54,7 +55,7 @@ pub fn look(colours: &[u8], s: Shape, row: usize, col: usize, dp: u8) -> Sight
 // `retries`.
 pub fn slide(colours: &[u8], s: Shape, row: usize, col: usize, from: PointerState) -> Slid
     requires { ⌜ Frames (now colours) s × Inside (pictureOf (now colours) s) row col × Valid from ⌝ }
-    ensures { λ r. ⌜ Slide (pictureOf (now (colours .entry)) s) row col from 0 r ⌝ }
+    ensures { λ r. ⌜ Ends (pictureOf (now (colours .entry)) s) eighthTurn row col from r ⌝ }
 {
     let mut at_row = row;
     let mut at_col = col;

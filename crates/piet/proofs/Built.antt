@@ -6,7 +6,6 @@
 use mathlib.Core.Path.{_≡_, sym, ap, _∙_}
 use mathlib.Core.Bool.{true, false, true≢false}
 use mathlib.Core.List.{List, [], _∷_}
-use mathlib.Core.Logic.{⊎-elim}
 use Prim.Native.Nat.{ℕ, suc, _<_, _≤_}
 use native.Mathlib.Omega.{arith}
 use borrow.Author.Tests.{le-ltb, lt-leb, eq-eqb, ne-eqb}
@@ -26,7 +25,6 @@ use Rattle.picture.proofs.Codels.{first-in}
 use Rattle.table.specs.Layout.{rowCell, sizeField, markField, fieldAt, exitCell, exitAt, rowsRoom, exitsRoom}
 use Rattle.table.specs.ExitNumber.{targetOf, largestExit}
 use Rattle.table.proofs.Cells.{row-in, exit-in}
-use Rattle.table.proofs.Exits.{target-back}
 use Rattle.region.specs.Grid.{gridOf}
 use Rattle.region.proofs.MapLaws.{map-few}
 use Rattle.cfg.specs.Table.{Marks, is, none, Builds}
@@ -34,7 +32,7 @@ use Rattle.cfg.specs.declared.building.Built.the-variants.{Done}
 use Rattle.cfg.specs.Build as building
 use Rattle.cfg.specs.Build.{Written, refusals, refusal}
 use Rattle.cfg.proofs.Refusing.{accepted}
-use Rattle.cfg.proofs.Leads.{Leads, leads-small, exit-leads}
+use Rattle.cfg.proofs.Leads.{exit-fits}
 use Rattle.interpreter.specs.declared.Ended.{Ended}
 use Rattle.interpreter.specs.declared.Ran.{Ran}
 use Rattle.interpreter.specs.declared.Ran.the-variants.{Finished}
@@ -81,22 +79,8 @@ module _ {p : Picture} {map rows exits work map′ rows′ exits′ work′ : Li
   exit-right : (r s : ℕ) → r < n → s < 8 → wrongExit n (exitAt exits′ r s) ≡ false
   exit-right r s h k =
       let z = exit-at r s h k in
-      ⊎-elim
-      (λ (l : exitAt (take (exitsRoom (codels p)) exits′) r s ≡ 0). rw (sym z ∙ l) (right-exit 0 (omega arith) positive))
-      (λ (l : Leads p (take (codels p) map′) n (exitAt (take (exitsRoom (codels p)) exits′) r s)). led (rw z at l))
-      (exit-leads S B r s h k)
-    where
-      right-exit : (x : ℕ) → x ≤ largestExit → targetOf x < n → wrongExit n x ≡ false
-      right-exit x h k = rw (le-ltb largestExit x h, lt-leb n (targetOf x) k)
-
-      positive : targetOf 0 < n
-      positive = omega (arith, B .regions .below 0 (first-in S))
-
-      led : {x : ℕ} → Leads p (take (codels p) map′) n x → wrongExit n x ≡ false
-      led {x} l =
-          let k : l .target < 65536 = omega (arith, l .low, few, S .few) in
-          let t : targetOf x ≡ l .target = ap targetOf (l .number) ∙ target-back (l .target) (l .state) (l .instruction) k (l .valid) in
-          right-exit x (leads-small S (B .regions) l) (rw t (l .low))
+      let l = exit-fits S B r s h k in
+      rw (le-ltb largestExit (exitAt exits′ r s) (rw z at (l .0)), lt-leb n (targetOf (exitAt exits′ r s)) (rw z at (l .1)))
 
   -- the run does not refuse the table
   pub valid : validOf n rows′ exits′ ≡ true

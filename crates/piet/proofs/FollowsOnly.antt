@@ -1,5 +1,5 @@
 -- Demand 3 settles a run: what a picture, what is given and a limit allow is one end. Assumes nothing.
-use mathlib.Core.Path.{_≡_, refl, sym, ap, ap₂, subst, _∙_}
+use mathlib.Core.Path.{_≡_, refl, sym, ap, subst, _∙_}
 use mathlib.Core.Bool.{true, false, true≢false}
 use mathlib.Core.List.{List}
 use mathlib.Core.Logic.{by-cases}
@@ -9,23 +9,20 @@ use native.Mathlib.Decide.{decLt}
 use lib.ListN.{length}
 use lib.Seq.{ext-getD}
 use Rattle.flow.specs.declared.PointerState.{PointerState}
-use Rattle.flow.specs.Pointer.{Valid, stateNumber, attemptOf}
-use Rattle.flow.proofs.Order.{number-small, valid-number, valid-attempt}
+use Rattle.flow.specs.Pointer.{Valid, attemptOf}
+use Rattle.flow.proofs.Order.{valid-attempt}
 use Rattle.machine.specs.declared.Stop.{Stop}
 use Rattle.machine.specs.declared.Stop.the-variants.{Completed, MaxSteps, NeedsInput, StackFull, OutputFull, BadInput}
 use Rattle.machine.specs.Machine.{Given, RunRoom, Store, keeps, stops}
 use Rattle.machine.specs.Place.{Machine, End}
-use Rattle.colour.specs.Decode.{decodeOf}
-use Rattle.picture.specs.Picture.{Picture, codels, codelColour, colourAt, Sound}
-use Rattle.picture.proofs.Codels.{cols-pos, inside-of}
+use Rattle.picture.specs.Picture.{Picture, codels, Sound}
+use Rattle.picture.proofs.Codels.{cols-pos}
 use Rattle.region.specs.Grid.{gridOf}
 use Rattle.region.specs.Region.{IsMap}
 use Rattle.region.proofs.MapLaws.{unique}
-use Rattle.exit.specs.declared.attempt.Way.the-variants.{Step, Glide}
-use Rattle.cfg.specs.Nodes.{regionAt}
-use Rattle.cfg.proofs.NodeLaws.{same-codel, same-way}
-use Rattle.cfg.proofs.Trying.{placed}
-use Rattle.piet.specs.Moves.{Opens, beside, across, FirstOpen, NoneOpen}
+use Rattle.exit.specs.Opens.{Opens}
+use Rattle.exit.proofs.Opening.{opens-only, reached}
+use Rattle.piet.specs.Moves.{FirstOpen, NoneOpen}
 use Rattle.piet.specs.Follows.{Move, doing, Walk, starts, moves, Follows}
 use Rattle.base.proofs.Clash.{clash}
 use Rattle.piet.proofs.Following.{keeps-valid}
@@ -81,30 +78,7 @@ module _ (p : Picture) (map : List ℕ) (g : Given) (room : RunRoom) where
       })
 
 module _ {p : Picture} {map : List ℕ} (S : Sound p) (L : length map ≡ codels p) where
-  -- ---- an attempt leads to one region, with one state of the pointers and one instruction
-
-  opens-only : {r t i t′ i′ : ℕ} {q u u′ : PointerState} → Valid q → Opens p map r q t u i → Opens p map r q t′ u′ i′
-      → (t ≡ t′) × (u ≡ u′) × (i ≡ i′)
-  opens-only {q = q} v (beside {a = a} {b = b} x) (beside {a = a′} {b = b′} y) =
-      let w : Step a b ≡ Step a′ b′ = same-way (cols-pos S) L (number-small q v) x y in
-      let ea : a ≡ a′ = cc in
-      let eb : b ≡ b′ = cc in
-      let c = same-codel (cols-pos S) L (number-small q v) x y in
-      (ap₂ (regionAt p map) ea eb, refl, ap₂ decodeOf (ap (codelColour p) c) (ap₂ (colourAt p) ea eb))
-  opens-only {q = q} v (beside x) (across y) = let w = same-way (cols-pos S) L (number-small q v) x y in clash (cc)
-  opens-only {q = q} v (across x) (beside y) = let w = same-way (cols-pos S) L (number-small q v) x y in clash (cc)
-  opens-only {q = q} {u = u} {u′ = u′} v (across {a = a} {b = b} {c = c} {d = d} x) (across {a = a′} {b = b′} {c = c′} {d = d′} y) =
-      let w : Glide a b c d u ≡ Glide a′ b′ c′ d′ u′ = same-way (cols-pos S) L (number-small q v) x y in
-      let ec : c ≡ c′ = cc in
-      let ed : d ≡ d′ = cc in
-      (ap₂ (regionAt p map) ec ed, cc, refl)
-
-  opens-valid : {r t i : ℕ} {q u : PointerState} → Valid q → Opens p map r q t u i → Valid u
-  opens-valid v (beside x) = v
-  opens-valid {q = q} v (across x) =
-      placed (inside-of S (x .codel) (omega (arith, x .leaves .codel, L))) (valid-number (stateNumber q) (number-small q v)) (x .way) .2
-
-  -- ---- so does the first open one
+  -- ---- an attempt leads to one region, with one state of the pointers and one instruction; so does the first open one
 
   not-before : {r t i t′ i′ : ℕ} {q u u′ : PointerState} (F : FirstOpen p map r q t u i) (G : FirstOpen p map r q t′ u′ i′)
       → F .attempt < G .attempt → ⊥
@@ -114,7 +88,7 @@ module _ {p : Picture} {map : List ℕ} (S : Sound p) (L : length map ≡ codels
       → (t ≡ t′) × (u ≡ u′) × (i ≡ i′)
   first-only {r} {t} {i} {t′} {i′} {q} {u} {u′} v F G =
       let e : G .attempt ≡ F .attempt = omega (arith, not-before F G, not-before G F) in
-      opens-only (valid-attempt q (F .attempt) v) (F .opens)
+      opens-only (cols-pos S) L (valid-attempt q (F .attempt) v) (F .opens)
       (subst (λ (k : ℕ). Opens p map r (attemptOf q k) t′ u′ i′) e (G .opens))
 
   module _ (g : Given) (room : RunRoom) where
@@ -123,7 +97,7 @@ module _ {p : Picture} {map : List ℕ} (S : Sound p) (L : length map ≡ codels
     walk-valid : {h : List Move} {r : ℕ} {m : Store} → Walk p map g room h r m → Valid (m .pointers)
     walk-valid starts = record { dp = omega arith; cc = omega arith }
     walk-valid (moves {r = r} {i = i} {m = m} {u = u} w f F k) =
-        keeps-valid p map g room r u i m k (opens-valid (valid-attempt (m .pointers) (F .attempt) (walk-valid w)) (F .opens))
+        keeps-valid p map g room r u i m k (reached S L (valid-attempt (m .pointers) (F .attempt) (walk-valid w)) (F .opens) .lands .valid)
 
     -- from one place the next move is one, and comes to one thing
     move-only : {r t i r′ t′ i′ : ℕ} {m m′ : Store} {u u′ : PointerState} → Valid (m .pointers) → r ≡ r′ → m ≡ m′

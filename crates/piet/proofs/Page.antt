@@ -17,9 +17,8 @@ use Rattle.colour.specs.Decode as decoding
 use Rattle.colour.specs.Decode.{decodeOf}
 use Rattle.flow.specs.declared.PointerState.{PointerState}
 use Rattle.flow.specs.declared.Beyond.the-variants.{Codel, Outside}
-use Rattle.flow.specs.Pointer.{Valid, stateNumber, attemptOf, flipped, clockwise}
+use Rattle.flow.specs.Pointer.{Valid, attemptOf, flipped, clockwise}
 use Rattle.flow.specs.Neighbour.{aheadOf}
-use Rattle.flow.proofs.Order.{number-small}
 use Rattle.picture.specs.Picture.{Picture, rowsOf, colsOf, codels, colourAt, Sound}
 use Rattle.picture.proofs.Codels.{cols-pos, first-in}
 use Rattle.region.specs.Grid.{gridOf}
@@ -29,16 +28,17 @@ use Rattle.exit.specs.declared.slide.Sight.the-variants.{Shut, White, Coloured}
 use Rattle.exit.specs.declared.slide.Slid.{Slid}
 use Rattle.exit.specs.declared.slide.Slid.the-variants.{Landed}
 use Rattle.exit.specs.declared.attempt.Way.the-variants.{Glide}
-use Rattle.exit.specs.Slide.{lookOf, seen, seenAs, mostTurns, Slide, lost, turn, move, land}
+use Rattle.exit.specs.Trail.{station, Trail, Rule}
+use Rattle.exit.specs.Slide.{lookOf, seen, seenAs, Slide, lost, turn, move, land}
 use Rattle.exit.specs.Leaving.{LeavesBy, behind, reach, sideOf, beats, more}
-use Rattle.cfg.specs.Nodes.{Tried, regionAt}
-use Rattle.cfg.proofs.NodeLaws.{same-way}
+use Rattle.exit.specs.Opens.{regionAt, Tried, Opens, beside, across}
+use Rattle.exit.proofs.Opening.{same-way}
 use Rattle.machine.specs.declared.Op.{Op}
 use Rattle.machine.specs.declared.Op.the-variants.{Nothing}
 use Rattle.machine.specs.declared.Stop.the-variants.{Completed}
 use Rattle.machine.specs.Machine.{Given, RunRoom, Store, does, numbered, exec}
 use Rattle.machine.specs.Place.{start, End}
-use Rattle.piet.specs.Moves.{Opens, beside, across, NoneOpen}
+use Rattle.piet.specs.Moves.{NoneOpen}
 use Rattle.piet.specs.Follows.{Follows}
 use Rattle.piet.specs.Page.{colours, line, column, commands, right, down, left, up, toLeft}
 use Rattle.base.proofs.Clash.{clash}
@@ -195,54 +195,54 @@ pub ends-after-eight : {p : Picture} {map : List ℕ} {g : Given} {room : RunRoo
     → e .at .store .reading .awaiting ≡ false → NoneOpen p map (e .at .region) (e .at .store .pointers) → e .stop ≡ Completed
 ends-after-eight F l a N = F .completed .1 (l, a, N)
 
--- a slide that is lost has no turns left
-over : {n : ℕ} {A : Type 0} → mostTurns ≤ n → n < mostTurns → A
-over {n} h k = absurd (no h k)
+-- a slide goes on from a station at which it is not lost. White: "the interpreter slides through it in a straight line along
+-- DP"
+pub slides-on : {p : Picture} {rule : Rule} {past t : Trail} {r c r′ c′ : ℕ} {s : PointerState} {o : Slid} → rule (station r c s ∷ past) ≡ false
+    → lookOf p r c (s .dp) ≡ White r′ c′ → Slide p rule past r c s t o ↔ Slide p rule (station r c s ∷ past) r′ c′ s t o
+slides-on {p} {rule} {past} {r = r} {c = c} {r′ = r′} {c′ = c′} h e = (λ d. on d h e, λ d. move h e d)
   where
-    no : mostTurns ≤ n → n < mostTurns → ⊥
-    no h k = omega arith
-
--- White, while the slide has turns left: "the interpreter slides through it in a straight line along DP"
-pub slides-on : {p : Picture} {r c r′ c′ n : ℕ} {s : PointerState} {o : Slid} → n < mostTurns → lookOf p r c (s .dp) ≡ White r′ c′
-    → Slide p r c s n o ↔ Slide p r′ c′ s n o
-slides-on {p} {r} {c} {r′} {c′} {n} {s} {o} h e = (λ d. on d e, λ d. move h e d)
-  where
-    on : {s : PointerState} {o : Slid} → Slide p r c s n o → lookOf p r c (s .dp) ≡ White r′ c′ → Slide p r′ c′ s n o
-    on (lost k) e = over k h
-    on (turn k f d) e = clash (cc)
-    on (move {r′ = a} {c′ = b} {s = s} {o = o} k f d) e =
+    on : {t : Trail} {s : PointerState} {o : Slid} → Slide p rule past r c s t o → rule (station r c s ∷ past) ≡ false → lookOf p r c (s .dp) ≡ White r′ c′
+        → Slide p rule (station r c s ∷ past) r′ c′ s t o
+    on (lost k) h e = clash (cc)
+    on (turn k f d) h e = clash (cc)
+    on (move {t = t} {r′ = a} {c′ = b} {s = s} {o = o} k f d) h e =
         let x : a ≡ r′ = cc in
         let y : b ≡ c′ = cc in
-        subst (λ (z : ℕ). Slide p z c′ s n o) x (subst (λ (z : ℕ). Slide p a z s n o) y d)
-    on (land k f) e = clash (cc)
+        subst (λ (z : ℕ). Slide p rule (station r c s ∷ past) z c′ s t o) x (subst (λ (z : ℕ). Slide p rule (station r c s ∷ past) a z s t o) y d)
+    on (land k f) h e = clash (cc)
 
 -- "Hitting black or the edge while in white: CC flips and DP turns clockwise, and the slide goes on from that white codel in the
 -- new direction"
-pub slide-turns : {p : Picture} {r c n : ℕ} {s : PointerState} {o : Slid} → n < mostTurns → lookOf p r c (s .dp) ≡ Shut
-    → Slide p r c s n o ↔ Slide p r c (clockwise (flipped s)) (n + 1) o
-slide-turns {p} {r} {c} {n} {s} {o} h e = (λ d. on d e, λ d. turn h e d)
+pub slide-turns : {p : Picture} {rule : Rule} {past t : Trail} {r c : ℕ} {s : PointerState} {o : Slid} → rule (station r c s ∷ past) ≡ false
+    → lookOf p r c (s .dp) ≡ Shut → Slide p rule past r c s t o ↔ Slide p rule (station r c s ∷ past) r c (clockwise (flipped s)) t o
+slide-turns {p} {rule} {past} {r = r} {c = c} h e = (λ d. on d h e, λ d. turn h e d)
   where
-    on : {s : PointerState} {o : Slid} → Slide p r c s n o → lookOf p r c (s .dp) ≡ Shut → Slide p r c (clockwise (flipped s)) (n + 1) o
-    on (lost k) e = over k h
-    on (turn k f d) e = d
-    on (move k f d) e = clash (cc)
-    on (land k f) e = clash (cc)
+    on : {t : Trail} {s : PointerState} {o : Slid} → Slide p rule past r c s t o → rule (station r c s ∷ past) ≡ false → lookOf p r c (s .dp) ≡ Shut
+        → Slide p rule (station r c s ∷ past) r c (clockwise (flipped s)) t o
+    on (lost k) h e = clash (cc)
+    on (turn k f d) h e = d
+    on (move k f d) h e = clash (cc)
+    on (land k f) h e = clash (cc)
 
 -- a coloured block ends it there, in the present direction
-pub slide-lands : {p : Picture} {r c r′ c′ n : ℕ} {s : PointerState} {o : Slid} → n < mostTurns → lookOf p r c (s .dp) ≡ Coloured r′ c′
-    → Slide p r c s n o ↔ (o ≡ Landed r′ c′ s)
-slide-lands {p} {r} {c} {r′} {c′} {n} {s} {o} h e = (λ d. on d e, λ q. subst (Slide p r c s n) (sym q) (land h e))
+pub slide-lands : {p : Picture} {rule : Rule} {past t : Trail} {r c r′ c′ : ℕ} {s : PointerState} {o : Slid} → rule (station r c s ∷ past) ≡ false
+    → lookOf p r c (s .dp) ≡ Coloured r′ c′ → Slide p rule past r c s t o ↔ ((t ≡ station r c s ∷ past) × (o ≡ Landed r′ c′ s))
+slide-lands {p} {rule} {past} {t} {r} {c} {r′} {c′} {s} {o} h e = (
+  λ d. on d h e,
+  λ q. subst (λ (x : Trail). Slide p rule past r c s x o) (sym (q .0)) (subst (Slide p rule past r c s (station r c s ∷ past)) (sym (q .1)) (land h e)),
+)
   where
-    on : {s : PointerState} {o : Slid} → Slide p r c s n o → lookOf p r c (s .dp) ≡ Coloured r′ c′ → o ≡ Landed r′ c′ s
-    on (lost k) e = over k h
-    on (turn k f d) e = clash (cc)
-    on (move k f d) e = clash (cc)
-    on (land k f) e = cc
+    on : {t : Trail} {s : PointerState} {o : Slid} → Slide p rule past r c s t o → rule (station r c s ∷ past) ≡ false → lookOf p r c (s .dp) ≡ Coloured r′ c′
+        → (t ≡ station r c s ∷ past) × (o ≡ Landed r′ c′ s)
+    on (lost k) h e = clash (cc)
+    on (turn k f d) h e = clash (cc)
+    on (move k f d) h e = clash (cc)
+    on (land k f) h e = (refl, cc)
 
 -- "Entering a coloured block from white executes nothing"
 pub enters-silently : {p : Picture} {map : List ℕ} {r a b c d target i : ℕ} {q u v : PointerState} → Sound p → length map ≡ codels p → Valid q
-    → Tried p map r (stateNumber q) (Glide a b c d u) → Opens p map r q target v i
+    → Tried p map r q (Glide a b c d u) → Opens p map r q target v i
     → (g : Given) (size : ℕ) (m : Store) → exec g size (numbered i) m ≡ does m
 unfolding exec
-enters-silently {q = q} S L k t (beside x) g size m = let e = same-way (cols-pos S) L (number-small q k) t x in clash (cc)
+enters-silently S L k t (beside x) g size m = let e = same-way (cols-pos S) L k t x in clash (cc)
 enters-silently S L k t (across x) g size m = refl

@@ -1,12 +1,9 @@
 -- Which cell is whose: a cell of the rows is one field of one region, a cell of the exits one state of one region. What
 -- speaks of all cells goes through these laws, so that the layout is known here alone. Assumes nothing.
-use mathlib.Core.Path.{_≡_, refl, sym, ap, subst, _∙_}
-use mathlib.Core.List.{List}
-use Prim.Native.Nat.{ℕ, _+_, _*_, _/_, _%_, _<_, _≤_}
+use mathlib.Core.Path.{_≡_, subst}
+use Prim.Native.Nat.{ℕ, _/_, _%_, _<_, _≤_}
 use native.Mathlib.Omega.{arith}
-use lib.ListN.{length, getD}
-use lib.Seq.{ext-getD}
-use Rattle.table.specs.Layout.{rowCell, exitCell, rowsRoom, exitsRoom, fieldAt, exitAt}
+use Rattle.table.specs.Layout.{rowCell, exitCell, rowsRoom, exitsRoom}
 
 -- the region and the field that a cell of the rows is of
 pub record RowCell (k : ℕ) : Type 0 where

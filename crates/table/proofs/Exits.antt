@@ -1,6 +1,6 @@
 -- An exit number says what it was made of, and the largest one is document 01's. Assumes nothing.
 use mathlib.Core.Path.{_≡_, refl}
-use Prim.Native.Nat.{ℕ, _+_, _*_, _<_, _≤_}
+use Prim.Native.Nat.{ℕ, _<_, _≤_}
 use native.Mathlib.Omega.{arith}
 use Rattle.table.specs.ExitNumber.{exitNumber, targetOf, stateOf, instructionOf, largestExit}
 

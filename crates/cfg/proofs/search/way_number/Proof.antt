@@ -2,7 +2,7 @@
 -- Assumes nothing.
 use native.Mathlib.Omega.{arith}
 use borrow.Author.Needs.{needs}
-use Rattle.cfg.specs.Nodes.{wayNumber}
+use Rattle.cfg.specs.Search.{wayNumber}
 use Rattle.cfg.proofs.Trying.{exit-needs, exit-small, step-number, glide-number}
 use Rattle.picture.specs.Picture.{pictureOf}
 use Rattle.cfg.proofs.search.way_number.Statement.{statement}

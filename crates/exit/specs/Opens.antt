@@ -1,0 +1,36 @@
+-- What an attempt of a region comes to, by walking codels (document 01, "Regions and exits"). A region is named by its number
+-- in `map`, the numbering of the picture's regions by first codels, which the picture determines. Assumes nothing.
+use mathlib.Core.List.{List}
+use Prim.Native.Nat.{ℕ, _/_, _%_}
+use lib.ListN.{getD}
+use Rattle.flow.specs.declared.PointerState.{PointerState}
+use Rattle.colour.specs.Instruction.{none}
+use Rattle.colour.specs.Decode.{decodeOf}
+use Rattle.picture.specs.Picture.{Picture, rowsOf, colsOf, colourAt, indexOf, codelColour}
+use Rattle.exit.specs.declared.attempt.Way.{Way}
+use Rattle.exit.specs.declared.attempt.Way.the-variants.{Step, Glide}
+use Rattle.exit.specs.Attempt.{Attempt}
+use Rattle.exit.specs.Leaving.{LeavesBy}
+
+-- the region of the codel in row r and column c
+abbrev pub regionAt : Picture → List ℕ → ℕ → ℕ → ℕ
+regionAt p map r c = getD map (indexOf p r c) 0
+
+-- the attempt of region r in the state q: from the codel to leave by, the way w
+pub record Tried (p : Picture) (map : List ℕ) (r : ℕ) (q : PointerState) (w : Way) : Type 0 where
+  pub codel : ℕ
+  pub leaves : LeavesBy map (rowsOf p) (colsOf p) q r codel
+  pub way : Attempt p (codel / colsOf p) (codel % colsOf p) q w
+
+-- the attempt is open: it leads to a region, with new pointers and an instruction
+pub data Opens (p : Picture) (map : List ℕ) (r : ℕ) (q : PointerState) : ℕ → PointerState → ℕ → Type 0 where
+  -- "A coloured boundary gives its region, the same state and the decoded instruction"
+  beside : {a b : ℕ} (t : Tried p map r q (Step a b))
+      → Opens p map r q (regionAt p map a b) q (decodeOf (codelColour p (t .codel)) (colourAt p a b))
+  -- a slide that stops "gives that region, the present state and no instruction"
+  across : {a b c d : ℕ} {u : PointerState} → Tried p map r q (Glide a b c d u)
+      → Opens p map r q (regionAt p map c d) u none
+
+-- the attempt is not open
+pub record Shut (p : Picture) (map : List ℕ) (r : ℕ) (q : PointerState) : Type 0 where
+  pub never : (target : ℕ) (u : PointerState) (i : ℕ) → Opens p map r q target u i → ⊥
