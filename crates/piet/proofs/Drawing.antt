@@ -45,6 +45,12 @@ pub built : {p : Picture} {map rows exits work map′ rows′ exits′ work′ :
 built z (building.refused k v e h) never = refused k v (0 ∷ 0 ∷ []) (sym e ∙ z)
 built z (building.done e W) never = never _ refl
 
+-- an answer by another name
+pub named : {p : Picture} {map rows exits work map′ rows′ exits′ work′ : List ℕ} {r r′ : Built} → r ≡ r′
+    → building.Outcome p map rows exits work r map′ rows′ exits′ work′ → building.Outcome p map rows exits work r′ map′ rows′ exits′ work′
+named {p} {map} {rows} {exits} {work} {map′} {rows′} {exits′} {work′} e o =
+    subst (λ (x : Built). building.Outcome p map rows exits work x map′ rows′ exits′ work′) e o
+
 written : {p : Picture} {map rows exits work map′ rows′ exits′ work′ : List ℕ} {n : ℕ}
     → building.Outcome p map rows exits work (Done n) map′ rows′ exits′ work′ → Written p map rows exits work map′ rows′ exits′ work′ n
 written {n = n} (building.refused k v e h) = absurd (refused k v (n ∷ 0 ∷ []) (sym h))

@@ -7,6 +7,13 @@ use borrow.Author.Needs.{needs}
 use Rattle.answer.proofs.put_ended.Statement.{statement}
 use Rattle.answer.proofs.put_ended.Tie as tie
 
+-- from where the label is lent back to where it was made, and from there back to the start
+abbrev labelled : tie.After-label3 → tie.After-label-region
+labelled c = c .before .before .before .before .before .before
+
+abbrev begin : tie.After-label-region → tie.Start
+begin c = c .before .before .before .before .before .before .before .before .before
+
 cast-label-region : tie.Need-cast-label-region
 cast-label-region c = search needs
 
@@ -29,10 +36,10 @@ array-share-prefix-label : tie.Need-array-share-prefix-label
 array-share-prefix-label c = search needs
 
 slice-aggregate-put-result : tie.Need-slice-aggregate-put-result
-slice-aggregate-put-result c = sym (length-take-le _ _ (c .before .before .before .before .before .before .label-region .ensures .0 .within))
+slice-aggregate-put-result c = sym (length-take-le _ _ (labelled c .label-region .ensures .0 .within))
 
 put-result-requires : tie.Need-put-result-requires
-put-result-requires c κs = part-fits (c .before .before .before .before .before .before .label-region .ensures) (c .before .before .before .before .before .before .before .before .before .before .before .before .before .before .before .pre .fits)
+put-result-requires c κs = part-fits (labelled c .label-region .ensures) (begin (labelled c) .pre .fits)
 
 same-length : tie.Need-same-length
 same-length c = search needs

@@ -1,9 +1,13 @@
 -- `answer::run_job` meets its contract: what the run of the picture answers is printed.
 -- Assumes nothing.
+use mathlib.Core.Path.{_≡_, subst}
+use Rattle.piet.specs.declared.run_picture.Pictured.{Pictured}
+use Rattle.piet.specs.RunPicture as running
 use Rattle.piet.specs.RunPicture.{Lends, lends}
 use Rattle.job.specs.Encoding.{Content}
 use Rattle.job.specs.Outcome.{contentOf}
-use Rattle.answer.proofs.Ending.{Sized, fresh-sized}
+use Rattle.answer.specs.Answer.{askedOf}
+use Rattle.answer.proofs.Ending.{Sized, fresh, fresh-sized}
 use Rattle.answer.proofs.Answering.{printable-end, prints-end, prints-refusal}
 use borrow.Author.Needs.{needs}
 use Rattle.answer.proofs.run_job.Statement.{statement}
@@ -13,10 +17,24 @@ use Rattle.answer.proofs.run_job.Tie as tie
 abbrev content : tie.Start → Content
 content s = contentOf (s .args .job .now) (s .args .p)
 
+-- from where the slices are back to the run's call; from there back to where they are made; from there back to the start
+abbrev called : tie.After-values2 → tie.After-run-parts
+called v = v .before .before .before .before .before .before .before .before
+
+abbrev made : tie.After-run-parts → tie.After-colours
+made c = c .before .before .before .before .before .before .before .before
+
+abbrev begin : tie.After-values2 → tie.Start
+begin v = made (called v) .before .before .before
+
+-- from what is printed back to the run's answer
+abbrev ending : tie.After-values3 → tie.After-pictured
+ending c = c .before .before .before .before .before .before
+
 -- how the slices that are lent to the run come back
 abbrev lent-after : tie.After-values2 → Lends
 lent-after v =
-    let z = v .before .before .before .before .before .before .before .before .run-parts .last .1 in
+    let z = called v .run-parts .last .1 in
     lends (z .1 .0) (z .1 .1 .0) (z .1 .1 .1 .0) (z .1 .1 .1 .1 .0) (z .1 .1 .1 .1 .1 .0) (z .1 .1 .1 .1 .1 .1 .0)
     (z .1 .1 .1 .1 .1 .1 .1 .0) (z .1 .1 .1 .1 .1 .1 .1 .1 .0)
 
@@ -31,6 +49,10 @@ sized v = record {
   kinds = v .before .kinds2 .given;
   values = v .values2 .given;
 }
+
+-- what the run promises of its answer
+answered : (v : tie.After-values2) (r : Pictured) → called v .run-parts .result ≡ r → running.Outcome (askedOf (content (begin v))) fresh r (lent-after v)
+answered v r e = subst (λ (x : Pictured). running.Outcome (askedOf (content (begin v))) fresh x (lent-after v)) e (called v .run-parts .ensures)
 
 slice-aggregate-run-parts : tie.Need-slice-aggregate-run-parts
 slice-aggregate-run-parts c = search needs
@@ -76,9 +98,10 @@ slice-aggregate-put-ended-4 c = search needs
 
 put-ended-requires : tie.Need-put-ended-requires
 put-ended-requires c κs =
-    let v = c .before .before .before .before .before .before .before .before in
-    let s = v .before .before .before .before .before .before .before .before .before .before .before .before .before .before .before .before .before .before .before in
-    printable-end (content s) (s .pre .1 .said) fresh-sized (sized v) (rw (c .before .before .before .before .before .before .pictured .given .1) at (v .before .before .before .before .before .before .before .before .run-parts .ensures)) _ (s .pre .0)
+    let p = ending c in
+    let v = p .before .before in
+    let s = begin v in
+    printable-end (content s) (s .pre .1 .said) fresh-sized (sized v) (answered v _ (p .pictured .given .1)) _ (s .pre .0)
 
 enum-known-pictured-2 : tie.Need-enum-known-pictured-2
 enum-known-pictured-2 c = search needs
@@ -94,20 +117,20 @@ same-length c = search needs
 
 returns : tie.Need-returns
 returns c =
-    let v = c .before .before .before .before .before .before .before .before .before .before .before in
-    let s = v .before .before .before .before .before .before .before .before .before .before .before .before .before .before .before .before .before .before .before in
-    prints-end (content s) (s .pre .1 .said) fresh-sized (sized v) (rw (c .before .before .before .before .before .before .before .before .before .pictured .given .1) at (v .before .before .before .before .before .before .before .before .run-parts .ensures))
-    (c .before .before .put-ended .ensures)
+    let p = ending (c .before .before .before) in
+    let v = p .before .before in
+    let s = begin v in
+    prints-end (content s) (s .pre .1 .said) fresh-sized (sized v) (answered v _ (p .pictured .given .1)) (c .before .before .put-ended .ensures)
 
 same-length-2 : tie.Need-same-length-2
 same-length-2 c = search needs
 
 returns-2 : tie.Need-returns-2
 returns-2 c =
-    let v = c .before .before .before .before .before .before .before in
-    let s = v .before .before .before .before .before .before .before .before .before .before .before .before .before .before .before .before .before .before .before in
-    prints-refusal (content s) (s .pre .1 .said) {l′ = lent-after v} fresh-sized (rw (c .before .before .before .before .before .pictured2 .given .1) at (v .before .before .before .before .before .before .before .before .run-parts .ensures))
-    (c .before .before .put-refusal .ensures)
+    let p = c .before .before .before .before .before in
+    let v = p .before .before in
+    let s = begin v in
+    prints-refusal (content s) (s .pre .1 .said) {l′ = lent-after v} fresh-sized (answered v _ (p .pictured2 .given .1)) (c .before .before .put-refusal .ensures)
 
 pub run-job-spec : {M : Type 1} → statement M
 run-job-spec =

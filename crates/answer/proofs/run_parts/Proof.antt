@@ -49,8 +49,15 @@ same-length-7 c = search needs
 same-length-8 : tie.Need-same-length-8
 same-length-8 c = search needs
 
+-- from the answer back to the call
+abbrev returned : tie.After-values → tie.After-work
+returned c = c .before .before .before .before .before
+
+abbrev called : tie.After-work → tie.After-run-picture
+called c = c .before .before .before .before .before .before .before .before .before
+
 returns : tie.Need-returns
-returns c = c .before .before .before .before .before .before .before .before .before .before .before .before .before .before .run-picture .ensures
+returns c = called (returned c) .run-picture .ensures
 
 pub run-parts-spec : {M : Type 1} → statement M
 run-parts-spec =

@@ -234,9 +234,11 @@ same-length-12 c = search needs
 returns-11 : tie.Need-returns-11
 unfolding exec
 returns-11 c =
-    let s = c .before .before .before .before .before .before .before .before .before .before .before .before .before in
-    let r = c .before .before .before .before .before .char-out in
-    rw (c .before .before .before .before .before .before .before .before .before .enum-told10 .given .1, c .after-output .ensures)
+    let out = c .before .before .before .before .before in
+    let known = out .before .before .before .before in
+    let s = known .before .before .before .before in
+    let r = out .char-out in
+    rw (known .enum-told10 .given .1, c .after-output .ensures)
     (wrote (now (s .args .stack)) (now (s .args .kinds)) (now (s .args .values)) (s .args .at) (s .pre)
     charOut (r .last .0) (r .last .1 .1 .0) (r .last .1 .1 .1 .0)
     (r .result) (r .ensures) (r .kept .0) (r .kept .1 .1 .0) (r .kept .1 .1 .1 .0))
@@ -262,9 +264,11 @@ same-length-16 c = search needs
 returns-13 : tie.Need-returns-13
 unfolding exec
 returns-13 c =
-    let s = c .before .before .before .before .before .before .before .before .before .before .before .before .before in
-    let r = c .before .before .before .before .before .int-out in
-    rw (c .before .before .before .before .before .before .before .before .before .enum-told12 .given .1, c .after-output2 .ensures)
+    let out = c .before .before .before .before .before in
+    let known = out .before .before .before .before in
+    let s = known .before .before .before .before in
+    let r = out .int-out in
+    rw (known .enum-told12 .given .1, c .after-output2 .ensures)
     (wrote (now (s .args .stack)) (now (s .args .kinds)) (now (s .args .values)) (s .args .at) (s .pre)
     intOut (r .last .0) (r .last .1 .1 .0) (r .last .1 .1 .1 .0)
     (r .result) (r .ensures) (r .kept .0) (r .kept .1 .1 .0) (r .kept .1 .1 .1 .0))

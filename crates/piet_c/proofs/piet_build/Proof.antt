@@ -7,6 +7,13 @@ use Rattle.piet_c.proofs.Telling.{told}
 use Rattle.piet_c.proofs.piet_build.Statement.{statement}
 use Rattle.piet_c.proofs.piet_build.Tie as tie
 
+-- from where the slices are back to the call of `build`, and from there back to where the answer has room
+abbrev called : tie.After-slice-known9 → tie.After-build
+called c = c .before .before .before .before .before .before .before .before
+
+abbrev roomy : tie.After-build → tie.Else1
+roomy c = c .before .before .before .before .before
+
 returns : tie.Need-returns
 returns c = short (c .if1 .taken) refl refl refl
 
@@ -36,11 +43,11 @@ same-length-5 c = search needs
 
 returns-2 : tie.Need-returns-2
 returns-2 c =
-    let the-of-built = c .before .before .before .before .of-built in
-    let the-if1 = c .before .before .before .before .before .before .before .before .before .before .before .before .before .before .before .before .before .before .if1 in
-    let the-build = c .before .before .before .before .before .before .before .before .before .before .before .before .before .build in
-    let the-put-two = c .before .before .put-two in
-    told (the-of-built .result .number) (the-of-built .result .first ∷ the-of-built .result .second ∷ []) (the-if1 .left) (the-build .result, refl, the-build .ensures) (the-of-built .ensures) (the-put-two .ensures)
+    let o = c .before .before .before .before in
+    let b = called (o .before) in
+    let t = o .of-built .result in
+    told (t .number) (t .first ∷ t .second ∷ []) (roomy b .if1 .left) (b .build .result, refl, b .build .ensures) (o .of-built .ensures)
+    (c .before .before .put-two .ensures)
 
 pub piet-build-spec : {M : Type 1} → statement M
 piet-build-spec =

@@ -7,6 +7,13 @@ use borrow.Author.Needs.{needs}
 use Rattle.piet_c.proofs.piet_run.Statement.{statement}
 use Rattle.piet_c.proofs.piet_run.Tie as tie
 
+-- from where the answer is told back to the run, and from there back to where the answer has room
+abbrev called : tie.After-of-ran → tie.After-run
+called c = c .before .before .before .before .before
+
+abbrev roomy : tie.After-run → tie.Else1
+roomy c = c .before .before .before .before
+
 returns : tie.Need-returns
 returns c = short (c .if1 .taken) refl refl refl
 
@@ -33,11 +40,11 @@ same-length-4 c = search needs
 
 returns-2 : tie.Need-returns-2
 returns-2 c =
-    let the-of-ran = c .before .before .before .before .of-ran in
-    let the-if1 = c .before .before .before .before .before .before .before .before .before .before .before .before .before .if1 in
-    let the-run = c .before .before .before .before .before .before .before .before .before .run in
-    let the-put-eight = c .before .before .put-eight in
-    told (the-of-ran .result .number) (the-of-ran .result .status ∷ the-of-ran .result .steps ∷ the-of-ran .result .region ∷ the-of-ran .result .dp ∷ the-of-ran .result .cc ∷ the-of-ran .result .depth ∷ the-of-ran .result .outputs ∷ the-of-ran .result .used ∷ []) (the-if1 .left) (the-run .result, refl, the-run .ensures .0) (the-of-ran .ensures) (the-put-eight .ensures)
+    let o = c .before .before .before .before in
+    let r = called o in
+    let t = o .of-ran .result in
+    told (t .number) (t .status ∷ t .steps ∷ t .region ∷ t .dp ∷ t .cc ∷ t .depth ∷ t .outputs ∷ t .used ∷ []) (roomy r .if1 .left)
+    (r .run .result, refl, r .run .ensures .0) (o .of-ran .ensures) (c .before .before .put-eight .ensures)
 
 pub piet-run-spec : {M : Type 1} → statement M
 piet-run-spec =

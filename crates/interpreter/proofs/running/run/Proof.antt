@@ -1,10 +1,13 @@
 -- `interpreter::running::run` meets its contract. What the slices hold at the end is what the definition says of every cell. Assumes nothing.
-use mathlib.Core.Path.{sym, _∙_}
+use mathlib.Core.Path.{_≡_, sym, _∙_}
+use mathlib.Core.Bool.{true}
 use borrow.Author.Tests.{not-true, not-false}
 use borrow.Author.Needs.{needs}
 use denote.Ref.{now}
-use Rattle.machine.specs.Machine.{given}
-use Rattle.machine.specs.Held.{slices}
+use Rattle.machine.specs.Machine.{Given, given}
+use Rattle.machine.specs.Held.{Slices, slices}
+use Rattle.machine.proofs.Only.{AsLong}
+use Rattle.interpreter.specs.Table.{validOf}
 use Rattle.interpreter.specs.Outcome.{endOf}
 use Rattle.interpreter.proofs.Answering.{run-refuses, run-finishes}
 use Rattle.interpreter.proofs.Settled.{settled}
@@ -12,25 +15,38 @@ use Rattle.interpreter.proofs.ValidLaws.{good-of}
 use Rattle.interpreter.proofs.running.run.Statement.{statement}
 use Rattle.interpreter.proofs.running.run.Tie as tie
 
+-- from where the table is judged back to the start; from the run's call back to there; from its answer back to the call
+abbrev begin : tie.After-valid → tie.Start
+begin c = c .before .before .before .before .before
+
+abbrev passed : tie.After-run-valid-arg3 → tie.Else1
+passed c = c .before .before .before
+
+abbrev ended : tie.After-values → tie.After-run-valid
+ended c = c .before .before .before .before
+
+abbrev what : tie.Start → Given
+what s = given (s .args .terms) (now (s .args .input))
+
+abbrev held : tie.Start → Slices
+held s = slices (now (s .args .stack)) (now (s .args .kinds)) (now (s .args .values))
+
+right : (c : tie.Else1) → let a = begin (c .before) .args in validOf (a .n) (now (a .rows)) (now (a .exits)) ≡ true
+right c = sym (c .before .valid .ensures) ∙ not-false (c .before .valid .result) (c .if1 .left)
+
 valid-requires : tie.Need-valid-requires
 valid-requires c κs = search needs
 
 returns : tie.Need-returns
 returns c =
-    let a = c .before .before .before .before .before .before .args in
-    let v = c .before .valid in (
-      run-refuses (a .n) (now (a .rows)) (now (a .exits)) (given (a .terms) (now (a .input)))
-          (slices (now (a .stack)) (now (a .kinds)) (now (a .values)))
-          (sym (v .ensures) ∙ not-true (v .result) (c .if1 .taken)),
-      tt,
-    )
+    let s = begin (c .before) in
+    let v = c .before .valid in
+    (run-refuses (s .args .n) (now (s .args .rows)) (now (s .args .exits)) (what s) (held s) (sym (v .ensures) ∙ not-true (v .result) (c .if1 .taken)), tt)
 
 run-valid-requires : tie.Need-run-valid-requires
 run-valid-requires c κs =
-    let a = c .before .before .before .before .before .before .before .before .before .args in
-    let v = c .before .before .before .before .valid in
-    good-of (a .n) (now (a .rows)) (now (a .exits))
-    (sym (v .ensures) ∙ not-false (v .result) (c .before .before .before .if1 .left))
+    let s = begin (passed c .before) in
+    good-of (s .args .n) (now (s .args .rows)) (now (s .args .exits)) (right (passed c))
 
 same-length : tie.Need-same-length
 same-length c = search needs
@@ -43,20 +59,15 @@ same-length-3 c = search needs
 
 returns-2 : tie.Need-returns-2
 returns-2 c =
-    let the-args = c .before .before .before .before .before .before .before .before .before .before .before .before .before .before .args in
-    let the-run-valid = c .before .before .before .before .run-valid in
-    let the-valid = c .before .before .before .before .before .before .before .before .before .valid in
-    let the-if1 = c .before .before .before .before .before .before .before .before .if1 in
-    let l = slices (now (the-args .stack)) (now (the-args .kinds)) (now (the-args .values)) in
-    let l′ = slices (the-run-valid .last .1 .1 .1 .1 .1 .0) (the-run-valid .last .1 .1 .1 .1 .1 .1 .0) (the-run-valid .last .1 .1 .1 .1 .1 .1 .1 .0) in
-    let right = sym (the-valid .ensures) ∙ not-false (the-valid .result) (the-if1 .left) in
-    let g = given (the-args .terms) (now (the-args .input)) in
-    let s = settled (the-args .n) (endOf (now (the-args .rows)) (now (the-args .exits)) g l) l′ l (the-run-valid .result)
-    (record { stack = the-run-valid .kept .1 .1 .1 .1 .1 .0; kinds = the-run-valid .kept .1 .1 .1 .1 .1 .1 .0; values = the-run-valid .kept .1 .1 .1 .1 .1 .1 .1 .0 })
-    (the-run-valid .ensures) in (
-      run-finishes (the-args .n) (now (the-args .rows)) (now (the-args .exits)) g l right (s .0) (s .1),
-      (good-of (the-args .n) (now (the-args .rows)) (now (the-args .exits)) right, the-run-valid .ensures),
-    )
+    let r = ended c .run-valid in
+    let p = passed (ended c .before) in
+    let s = begin (p .before) in
+    let rows = now (s .args .rows) in
+    let exits = now (s .args .exits) in
+    let l′ = slices (r .last .1 .1 .1 .1 .1 .0) (r .last .1 .1 .1 .1 .1 .1 .0) (r .last .1 .1 .1 .1 .1 .1 .1 .0) in
+    let long : AsLong l′ (held s) = record { stack = r .kept .1 .1 .1 .1 .1 .0; kinds = r .kept .1 .1 .1 .1 .1 .1 .0; values = r .kept .1 .1 .1 .1 .1 .1 .1 .0 } in
+    let e = settled (s .args .n) (endOf rows exits (what s) (held s)) l′ (held s) (r .result) long (r .ensures) in
+    (run-finishes (s .args .n) rows exits (what s) (held s) (right p) (e .0) (e .1), (good-of (s .args .n) rows exits (right p), r .ensures))
 
 pub run-spec : {M : Type 1} → statement M
 run-spec =

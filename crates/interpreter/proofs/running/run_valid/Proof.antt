@@ -5,11 +5,30 @@ use denote.Ref.{now}
 use Rattle.stack.specs.Stack.{stackOf}
 use Rattle.machine.specs.Output.{outsOf}
 use Rattle.machine.specs.Machine.{given}
-use Rattle.machine.specs.Held.{slices}
+use Rattle.machine.specs.Held.{Slices, slices}
 use Rattle.interpreter.proofs.Settled.{from-start, placed-start}
 use Rattle.interpreter.proofs.Clearing.{cleared}
 use Rattle.interpreter.proofs.running.run_valid.Statement.{statement}
 use Rattle.interpreter.proofs.running.run_valid.Tie as tie
+
+-- from where the slices are filled, one after the other, back to the start; from the call of `resume` back to there
+abbrev begin : tie.After-fill-i64 → tie.Start
+begin c = c .before .before .before .before .before .before
+
+abbrev first : tie.After-fill-u8 → tie.After-fill-i64
+first c = c .before .before .before
+
+abbrev second : tie.After-fill-i642 → tie.After-fill-u8
+second c = c .before .before .before .before
+
+abbrev cleared-all : tie.After-resume-arg3 → tie.After-fill-i642
+cleared-all c = c .before .before .before .before
+
+abbrev start : tie.After-fill-i642 → tie.Start
+start c = begin (first (second c))
+
+abbrev clean : tie.After-fill-i642 → Slices
+clean c = slices (first (second c) .fill-i64 .last .0) (second c .fill-u8 .last .0) (c .fill-i642 .last .0)
 
 fill-i64-requires : tie.Need-fill-i64-requires
 fill-i64-requires c κs = search needs
@@ -22,15 +41,12 @@ fill-i64-requires-2 c κs = search needs
 
 resume-requires : tie.Need-resume-requires
 resume-requires c κs =
-    let the-pre = c .before .before .before .before .before .before .before .before .before .before .before .before .before .before .before .before .before .pre in
-    let the-args = c .before .before .before .before .before .before .before .before .before .before .before .before .before .before .before .before .before .args in
-    let the-fill-i64 = c .before .before .before .before .before .before .before .before .before .before .before .fill-i64 in
-    let the-fill-u8 = c .before .before .before .before .before .before .before .before .fill-u8 in
-    let the-fill-i642 = c .before .before .before .before .fill-i642 in (
-      the-pre,
-      placed-start (the-args .n) (the-fill-i64 .last .0) (the-fill-u8 .last .0) (the-fill-i642 .last .0) (the-pre .some)
-          (cleared (pos 0) (now (the-args .stack)) _ (the-fill-i64 .ensures)) (cleared 0 (now (the-args .kinds)) _ (the-fill-u8 .ensures))
-          (cleared (pos 0) (now (the-args .values)) _ (the-fill-i642 .ensures)),
+    let f = cleared-all c in
+    let s = start f in (
+      s .pre,
+      placed-start (s .args .n) (clean f .stack) (clean f .kinds) (clean f .values) (s .pre .some)
+          (cleared (pos 0) (now (s .args .stack)) _ (first (second f) .fill-i64 .ensures)) (cleared 0 (now (s .args .kinds)) _ (second f .fill-u8 .ensures))
+          (cleared (pos 0) (now (s .args .values)) _ (f .fill-i642 .ensures)),
     )
 
 same-length : tie.Need-same-length
@@ -45,16 +61,13 @@ same-length-3 c = search needs
 returns : tie.Need-returns
 unfolding stackOf outsOf
 returns c =
-    let the-args = c .before .before .before .before .before .before .before .before .before .before .before .before .before .before .before .before .before .before .before .before .before .before .args in
-    let the-fill-i64 = c .before .before .before .before .before .before .before .before .before .before .before .before .before .before .before .before .fill-i64 in
-    let the-fill-u8 = c .before .before .before .before .before .before .before .before .before .before .before .before .before .fill-u8 in
-    let the-fill-i642 = c .before .before .before .before .before .before .before .before .before .fill-i642 in
-    let the-resume = c .before .before .before .before .resume in
-    let l = slices (now (the-args .stack)) (now (the-args .kinds)) (now (the-args .values)) in
-    let clean = slices (the-fill-i64 .last .0) (the-fill-u8 .last .0) (the-fill-i642 .last .0) in
-    let l′ = slices (the-resume .last .1 .1 .1 .1 .1 .0) (the-resume .last .1 .1 .1 .1 .1 .1 .0) (the-resume .last .1 .1 .1 .1 .1 .1 .1 .0) in
-    from-start (the-args .n) (now (the-args .rows)) (now (the-args .exits)) (given (the-args .terms) (now (the-args .input))) clean l l′ (the-resume .result)
-    (record { stack = the-fill-i64 .kept .0; kinds = the-fill-u8 .kept .0; values = the-fill-i642 .kept .0 }) (the-resume .ensures)
+    let r = c .before .before .before .before .resume in
+    let f = cleared-all (c .before .before .before .before .before) in
+    let s = start f in
+    let l′ = slices (r .last .1 .1 .1 .1 .1 .0) (r .last .1 .1 .1 .1 .1 .1 .0) (r .last .1 .1 .1 .1 .1 .1 .1 .0) in
+    from-start (s .args .n) (now (s .args .rows)) (now (s .args .exits)) (given (s .args .terms) (now (s .args .input))) (clean f)
+    (slices (now (s .args .stack)) (now (s .args .kinds)) (now (s .args .values))) l′ (r .result)
+    (record { stack = first (second f) .fill-i64 .kept .0; kinds = second f .fill-u8 .kept .0; values = f .fill-i642 .kept .0 }) (r .ensures)
 
 pub run-valid-spec : {M : Type 1} → statement M
 run-valid-spec =

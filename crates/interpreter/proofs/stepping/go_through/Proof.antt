@@ -1,12 +1,62 @@
 -- `interpreter::stepping::go_through` meets its contract. What the instruction came to is what the step comes to. Assumes nothing.
+use mathlib.Core.Path.{_≡_, subst}
 use native.Mathlib.Omega.{arith}
 use borrow.Author.Needs.{needs}
 use denote.Ref.{now}
-use Rattle.machine.specs.Machine.{given}
-use Rattle.machine.specs.Held.{slices}
+use Rattle.machine.specs.declared.Done.{Done}
+use Rattle.machine.specs.Machine.{Given, given, exec}
+use Rattle.machine.specs.Held.{Slices, slices, Execs, atPointers}
+use Rattle.interpreter.specs.Table.{pointersOf, opOf, sizeOf}
 use Rattle.interpreter.proofs.StepLaws.{stands-in, moved, halted}
 use Rattle.interpreter.proofs.stepping.go_through.Statement.{statement}
 use Rattle.interpreter.proofs.stepping.go_through.Tie as tie
+
+-- from the size's cell back to the start; from the exit's instruction back to that cell; from the call of `exec` back to
+-- that instruction
+abbrev begin : tie.After-row-cell → tie.Start
+begin c = c .before .before .before .before .before
+
+abbrev cell : tie.After-numbered → tie.After-row-cell
+cell c = c .before .before .before .before .before .before .before
+
+abbrev number : tie.After-at-pointers → tie.After-numbered
+number c = c .before .before .before .before
+
+-- from what the instruction came to back to it
+abbrev kept : tie.After-struct-known2 → tie.After-exec
+kept c = c .before .before .before .before .before .before .before .before
+
+abbrev stopped : tie.After-known-told2 → tie.After-exec
+stopped c = c .before .before .before .before .before .before .before
+
+abbrev start : tie.After-exec → tie.Start
+start e = begin (cell (number (e .before)))
+
+abbrev what : tie.Start → Given
+what s = given (s .args .terms) (now (s .args .input))
+
+abbrev held : tie.Start → Slices
+held s = slices (now (s .args .stack)) (now (s .args .kinds)) (now (s .args .values))
+
+abbrev left : tie.After-exec → Slices
+left e = slices (e .exec .last .1 .1 .1 .1 .0) (e .exec .last .1 .1 .1 .1 .1 .0) (e .exec .last .1 .1 .1 .1 .1 .1 .0)
+
+-- what the instruction came to, by the exit's number
+went : (e : tie.After-exec) (r : Done) → e .exec .result ≡ r
+    → Execs (exec (what (start e)) (sizeOf (now (start e .args .rows)) (start e .args .at .region)) (opOf (start e .args .w))) (held (start e))
+    (atPointers (pointersOf (start e .args .w)) (start e .args .at .core)) (left e) r
+went e r q =
+    let n = e .before .before .before .before .before in
+    subst (Execs _ _ _ _) q
+    (rw (
+      n .numbered .ensures,
+      e .before .at-pointers .ensures,
+      n .before .before .of-number .ensures,
+      n .before .instruction-of .ensures,
+      n .before .before .before .state-of .ensures,
+      n .before .before .before .before .before .before .before .row-cell .ensures,
+    )
+    at (e .exec .ensures))
 
 cast-region : tie.Need-cast-region
 cast-region c = search needs
@@ -40,19 +90,15 @@ at-pointers-requires c κs = search needs
 
 exec-requires : tie.Need-exec-requires
 exec-requires c κs =
-    let the-of-number = c .before .before .before .before .before .before .of-number in
-    let the-state-of = c .before .before .before .before .before .before .before .state-of in
-    let the-pre = c .before .before .before .before .before .before .before .before .before .before .before .before .before .before .before .before .pre in
-    rw (c .at-pointers .ensures, the-of-number .ensures, the-state-of .ensures)
-    (stands-in _ _ _ (the-pre .1 .0 .stands) (omega arith))
+    let n = number c in
+    rw (c .at-pointers .ensures, n .before .before .of-number .ensures, n .before .before .before .state-of .ensures)
+    (stands-in _ _ _ (begin (cell n) .pre .1 .0 .stands) (omega arith))
 
 enum-known-next : tie.Need-enum-known-next
 enum-known-next c = search needs
 
 add-t32 : tie.Need-add-t32
-add-t32 c =
-    let the-pre = c .before .before .before .before .before .before .before .before .before .before .before .before .before .before .before .before .before .before .before .before .before .before .before .before .before .pre in
-    omega (arith, the-pre .1 .1 .2)
+add-t32 c = omega (arith, start (kept c) .pre .1 .1 .2)
 
 enum-known-stop : tie.Need-enum-known-stop
 enum-known-stop c = search needs
@@ -68,32 +114,12 @@ same-length-3 c = search needs
 
 returns : tie.Need-returns
 returns c =
-    let the-args = c .before .before .before .before .before .before .before .before .before .before .before .before .before .before .before .before .before .before .before .before .before .before .before .before .before .args in
-    let the-exec = c .before .before .before .before .before .before .before .before .exec in
-    let the-target-of = c .before .before .before .before .before .before .before .before .before .before .before .before .before .before .before .before .before .target-of in
-    let the-next = c .before .before .next in
-    let the-numbered = c .before .before .before .before .before .before .before .before .before .before .before .before .before .numbered in
-    let the-at-pointers = c .before .before .before .before .before .before .before .before .before .at-pointers in
-    let the-of-number = c .before .before .before .before .before .before .before .before .before .before .before .before .before .before .before .of-number in
-    let the-instruction-of = c .before .before .before .before .before .before .before .before .before .before .before .before .before .before .instruction-of in
-    let the-state-of = c .before .before .before .before .before .before .before .before .before .before .before .before .before .before .before .before .state-of in
-    let the-row-cell = c .before .before .before .before .before .before .before .before .before .before .before .before .before .before .before .before .before .before .before .before .row-cell in
-    let the-pre = c .before .before .before .before .before .before .before .before .before .before .before .before .before .before .before .before .before .before .before .before .before .before .before .before .before .pre in
     λ exits.
-    let l = slices (now (the-args .stack)) (now (the-args .kinds)) (now (the-args .values)) in
-    let l′ = slices (the-exec .last .1 .1 .1 .1 .0) (the-exec .last .1 .1 .1 .1 .1 .0) (the-exec .last .1 .1 .1 .1 .1 .1 .0) in
-    rw (the-target-of .ensures)
-    (moved (now (the-args .rows)) exits (given (the-args .terms) (now (the-args .input))) (the-args .n) l (the-args .at) (the-args .w) l′ (the-next .given .0 .0)
-    (rw (
-      the-numbered .ensures,
-      the-at-pointers .ensures,
-      the-of-number .ensures,
-      the-instruction-of .ensures,
-      the-state-of .ensures,
-      the-row-cell .ensures,
-      the-next .given .1,
-    )
-    at (the-exec .ensures)) (the-pre .1 .1 .1))
+    let e = kept c in
+    let s = start e in
+    rw (number (e .before) .before .before .before .before .target-of .ensures)
+    (moved (now (s .args .rows)) exits (what s) (s .args .n) (held s) (s .args .at) (s .args .w) (left e) (c .before .before .next .given .0 .0)
+    (went e _ (c .before .before .next .given .1)) (s .pre .1 .1 .1))
 
 same-length-4 : tie.Need-same-length-4
 same-length-4 c = search needs
@@ -106,28 +132,11 @@ same-length-6 c = search needs
 
 returns-2 : tie.Need-returns-2
 returns-2 c =
-    let the-args = c .before .before .before .before .before .before .before .before .before .before .before .before .before .before .before .before .before .before .before .before .before .before .before .before .args in
-    let the-exec = c .before .before .before .before .before .before .before .exec in
-    let the-numbered = c .before .before .before .before .before .before .before .before .before .before .before .before .numbered in
-    let the-at-pointers = c .before .before .before .before .before .before .before .before .at-pointers in
-    let the-of-number = c .before .before .before .before .before .before .before .before .before .before .before .before .before .before .of-number in
-    let the-instruction-of = c .before .before .before .before .before .before .before .before .before .before .before .before .before .instruction-of in
-    let the-state-of = c .before .before .before .before .before .before .before .before .before .before .before .before .before .before .before .state-of in
-    let the-row-cell = c .before .before .before .before .before .before .before .before .before .before .before .before .before .before .before .before .before .before .before .row-cell in
     λ exits.
-    let l = slices (now (the-args .stack)) (now (the-args .kinds)) (now (the-args .values)) in
-    let l′ = slices (the-exec .last .1 .1 .1 .1 .0) (the-exec .last .1 .1 .1 .1 .1 .0) (the-exec .last .1 .1 .1 .1 .1 .1 .0) in
-    halted (now (the-args .rows)) exits (given (the-args .terms) (now (the-args .input))) (the-args .n) l (the-args .at) (the-args .w) l′ (c .before .stop .given .0 .0)
-    (rw (
-      the-numbered .ensures,
-      the-at-pointers .ensures,
-      the-of-number .ensures,
-      the-instruction-of .ensures,
-      the-state-of .ensures,
-      the-row-cell .ensures,
-      c .before .stop .given .1,
-    )
-    at (the-exec .ensures))
+    let e = stopped c in
+    let s = start e in
+    halted (now (s .args .rows)) exits (what s) (s .args .n) (held s) (s .args .at) (s .args .w) (left e) (c .before .stop .given .0 .0)
+    (went e _ (c .before .stop .given .1))
 
 pub go-through-spec : {M : Type 1} → statement M
 go-through-spec =

@@ -2,41 +2,55 @@
 use native.Mathlib.Omega.{arith}
 use borrow.Author.Needs.{needs}
 use denote.Ref.{now}
-use Rattle.machine.specs.Machine.{given}
-use Rattle.machine.specs.Held.{slices}
+use Rattle.machine.specs.Machine.{Given, given}
+use Rattle.machine.specs.Held.{Slices, slices}
 use Rattle.interpreter.proofs.StepLaws.{needs-input, completed, taken, inside-exit}
 use Rattle.interpreter.proofs.stepping.step.Statement.{statement}
 use Rattle.interpreter.proofs.stepping.step.Tie as tie
 
+-- from where the core is read back to the start; from the exit that is found back to there
+abbrev begin : tie.After-core → tie.Start
+begin c = c .before .before .before .before .before
+
+abbrev unawaited : tie.After-open-exit → tie.Else1
+unawaited c = c .before .before
+
+abbrev start : tie.After-open-exit → tie.Start
+start c = begin (unawaited c .before)
+
+abbrev what : tie.Start → Given
+what s = given (s .args .terms) (now (s .args .input))
+
+abbrev held : tie.Start → Slices
+held s = slices (now (s .args .stack)) (now (s .args .kinds)) (now (s .args .values))
+
 returns : tie.Need-returns
 returns c =
-    let a = c .before .before .before .before .before .before .args in
-    needs-input (now (a .rows)) (now (a .exits)) (given (a .terms) (now (a .input))) (a .n)
-    (slices (now (a .stack)) (now (a .kinds)) (now (a .values))) (a .at) (c .if1 .taken)
+    let s = begin (c .before) in
+    needs-input (now (s .args .rows)) (now (s .args .exits)) (what s) (s .args .n) (held s) (s .args .at) (c .if1 .taken)
 
 open-exit-requires : tie.Need-open-exit-requires
 open-exit-requires c κs = search needs
 
 returns-2 : tie.Need-returns-2
 returns-2 c =
-    let a = c .before .before .before .before .before .before .before .before .before .args in
-    let o = c .before .open-exit in
-    completed (now (a .rows)) (now (a .exits)) (given (a .terms) (now (a .input))) (a .n)
-    (slices (now (a .stack)) (now (a .kinds)) (now (a .values))) (a .at) (c .before .before .before .if1 .left) (o .result)
-    (o .ensures) (c .if2 .taken)
+    let o = c .before in
+    let s = start o in
+    completed (now (s .args .rows)) (now (s .args .exits)) (what s) (s .args .n) (held s) (s .args .at) (unawaited o .if1 .left)
+    (o .open-exit .result) (o .open-exit .ensures) (c .if2 .taken)
 
 go-through-requires : tie.Need-go-through-requires
 go-through-requires c κs =
-    let the-pre = c .before .before .before .before .before .before .before .before .before .before .before .before .pre in
-    let the-if2 = c .before .before .before .if2 in
-    let the-open-exit = c .before .before .before .before .open-exit in (
-      (the-pre .0 .few, the-pre .0 .rows-fit),
+    let some = c .before .before .before in
+    let o = some .before in
+    let p = start o .pre in (
+      (p .0 .few, p .0 .rows-fit),
       (
-        the-pre .1 .0,
+        p .1 .0,
         (
-          omega (arith, the-if2 .left),
-          rw (the-open-exit .ensures) (inside-exit (the-pre .0) _ _ (the-pre .1 .0 .stands .valid) (the-pre .1 .0 .inside)),
-          the-pre .1 .1,
+          omega (arith, some .if2 .left),
+          rw (o .open-exit .ensures) (inside-exit (p .0) _ _ (p .1 .0 .stands .valid) (p .1 .0 .inside)),
+          p .1 .1,
         ),
       ),
     )
@@ -52,15 +66,14 @@ same-length-3 c = search needs
 
 returns-3 : tie.Need-returns-3
 returns-3 c =
-    let the-args = c .before .before .before .before .before .before .before .before .before .before .before .before .before .before .before .before .before .args in
-    let the-go-through = c .before .before .before .before .go-through in
-    let the-if1 = c .before .before .before .before .before .before .before .before .before .before .before .if1 in
-    let the-open-exit = c .before .before .before .before .before .before .before .before .before .open-exit in
-    let the-if2 = c .before .before .before .before .before .before .before .before .if2 in
-    let l = slices (now (the-args .stack)) (now (the-args .kinds)) (now (the-args .values)) in
-    let l′ = slices (the-go-through .last .1 .1 .1 .1 .0) (the-go-through .last .1 .1 .1 .1 .1 .0) (the-go-through .last .1 .1 .1 .1 .1 .1 .0) in
-    taken (now (the-args .rows)) (now (the-args .exits)) (given (the-args .terms) (now (the-args .input))) (the-args .n) l (the-args .at) (the-if1 .left) (the-open-exit .result) (the-open-exit .ensures) l′
-    (the-go-through .result) (the-if2 .left) (the-go-through .ensures (now (the-args .exits)))
+    let gone = c .before .before .before .before in
+    let some = gone .before .before .before .before in
+    let o = some .before in
+    let s = start o in
+    let w = gone .go-through in
+    taken (now (s .args .rows)) (now (s .args .exits)) (what s) (s .args .n) (held s) (s .args .at) (unawaited o .if1 .left) (o .open-exit .result)
+    (o .open-exit .ensures) (slices (w .last .1 .1 .1 .1 .0) (w .last .1 .1 .1 .1 .1 .0) (w .last .1 .1 .1 .1 .1 .1 .0)) (w .result)
+    (some .if2 .left) (w .ensures (now (s .args .exits)))
 
 pub step-spec : {M : Type 1} → statement M
 step-spec =

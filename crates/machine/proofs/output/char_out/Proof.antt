@@ -64,9 +64,10 @@ same-length-3 c = search needs
 returns-2 : tie.Need-returns-2
 unfolding char
 returns-2 c =
-    let s = c .before .before .before .before .before .before .before .before .before .before .before .before .before .before in
-    let l = c .before .before .before .before .before .before .before .before .before .before in
-    let r = c .before .before .before .before .put-out in
+    let out = c .before .before .before .before in
+    let l = out .before .before .before .before .before .before in
+    let s = l .before .before .before .before in
+    let r = out .put-out in
     let a = s .args in
     let u = residue (top s) (2 ^ 32) in
     let told : scalar u ≡ true =

@@ -42,8 +42,9 @@ same-length-3 c = search needs
 
 returns-2 : tie.Need-returns-2
 returns-2 c =
-    let a = c .before .before .before .before .before .before .before .before .before .before .before .args in
-    let r = c .before .before .before .before .put-out in
+    let out = c .before .before .before .before in
+    let a = out .before .before .before .before .before .before .before .args in
+    let r = out .put-out in
     let v = getD (now (a .stack)) (a .depth - 1) (pos 0) in
     let some : 0 < a .depth = omega arith in
     same-top intOut (λ _. record { kind = 2; value = v } ∷ []) (now (a .stack)) (a .depth) (now (a .kinds)) (now (a .values)) (a .n)

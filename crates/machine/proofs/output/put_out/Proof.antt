@@ -34,9 +34,10 @@ same-length-3 c = search needs
 returns-3 : tie.Need-returns-3
 unfolding Puts
 returns-3 c =
-    let s = c .before .before .before .before .before .before .before .before .before .before .before .before in
+    let e = c .before .before .before .before .before .before in
+    let s = e .before .before .before .before .before .before in
     kept _ (top-is _ (now (s .args .stack)) (s .args .depth) (s .pre .1 .1)) (c .before .pop .ensures)
-    (rw (toZ-ofZ (s .fits .v)) at (c .before .before .before .before .before .before .emit .ensures))
+    (rw (toZ-ofZ (s .fits .v)) at (e .emit .ensures))
 
 pub put-out-spec : {M : Type 1} → statement M
 put-out-spec =

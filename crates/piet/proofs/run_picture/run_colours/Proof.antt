@@ -2,10 +2,27 @@
 -- Assumes nothing.
 use mathlib.Core.List.{[], _∷_}
 use types.Run.{miss}
-use Rattle.piet.proofs.Drawing.{built}
+use Rattle.piet.proofs.Drawing.{built, named}
 use borrow.Author.Needs.{needs}
 use Rattle.piet.proofs.run_picture.run_colours.Statement.{statement}
 use Rattle.piet.proofs.run_picture.run_colours.Tie as tie
+
+-- from the run's answer back to its call; from there back to what building answered; from where its slices are back to
+-- its call; from there back to the start
+abbrev ran : tie.After-values → tie.After-run-table
+ran c = c .before .before .before .before
+
+abbrev told : tie.After-run-table → tie.After-built
+told c = c .before .before .before .before .before .before .before
+
+abbrev called : tie.After-slice-known9 → tie.After-build
+called c = c .before .before .before .before .before .before .before .before
+
+abbrev known : tie.After-build → tie.After-slice-known5
+known c = c .before .before .before .before .before
+
+abbrev begin : tie.After-slice-known5 → tie.Start
+begin c = c .before .before .before .before .before .before .before
 
 build-requires : tie.Need-build-requires
 build-requires c κs = search needs
@@ -39,10 +56,12 @@ same-length-7 c = search needs
 
 returns : tie.Need-returns
 returns c =
-    let the-built = c .before .before .before .before .before .before .before .before .before .before .before .built in
-    let the-build = c .before .before .before .before .before .before .before .before .before .before .before .before .before .before .before .before .before .before .before .before .before .build in
-    let the-run-table = c .before .before .before .before .run-table in
-    record { regions = the-built .given .0 .0; built = rw (the-built .given .1) at (the-build .ensures); runs = the-run-table .ensures }
+    let b = told (ran c) in
+    record {
+      regions = b .built .given .0 .0;
+      built = named (b .built .given .1) (called (b .before .before) .build .ensures);
+      runs = ran c .run-table .ensures;
+    }
 
 same-length-8 : tie.Need-same-length-8
 same-length-8 c = search needs
@@ -58,9 +77,8 @@ same-length-11 c = search needs
 
 returns-2 : tie.Need-returns-2
 returns-2 c =
-    let the-pre = c .before .before .before .before .before .before .before .before .before .before .before .before .before .before .before .before .before .before .before .before .before .pre in
-    let the-build = c .before .before .before .before .before .before .before .before .before .build in
-    absurd (built the-pre (the-build .ensures) (λ n e. miss (1 ∷ 2 ∷ 3 ∷ 4 ∷ 5 ∷ 6 ∷ 7 ∷ []) 0 tt (rw e at (c .match .keys2))))
+    let b = called (c .before) in
+    absurd (built (begin (known b) .pre) (b .build .ensures) (λ n e. miss (1 ∷ 2 ∷ 3 ∷ 4 ∷ 5 ∷ 6 ∷ 7 ∷ []) 0 tt (rw e at (c .match .keys2))))
 
 pub run-colours-spec : {M : Type 1} → statement M
 run-colours-spec =

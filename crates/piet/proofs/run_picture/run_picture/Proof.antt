@@ -27,8 +27,26 @@ asks c = asked (c .args .pixels .now) (c .args .height) (c .args .width) (c .arg
 abbrev has : (c : tie.Start) → Lends
 has c = lends (c .args .colours .now) (c .args .map .now) (c .args .rows .now) (c .args .exits .now) (c .args .work .now) (c .args .stack .now) (c .args .kinds .now) (c .args .values .now)
 
-abbrev begun : (c : tie.Else1) → tie.Start
-begun c = c .before .before .before .before .before .before .before .before .before .before .before
+-- from where the tests are made back to the start, and from where none fails
+abbrev begin : tie.After-check → tie.Start
+begin c = c .before .before .before .before .before .before .before .before .before
+
+abbrev begun : tie.Else1 → tie.Start
+begun c = begin (c .before .before)
+
+-- from the call of `run_colours` back to where its slices are lent, and from there back to the colours
+abbrev lending : tie.After-run-colours-arg8 → tie.After-run-colours-arg
+lending c = c .before .before .before .before .before .before .before
+
+abbrev classified : tie.After-run-colours-arg → tie.After-classify
+classified c = c .before .before .before
+
+-- from its answer back to its call
+abbrev returned : tie.After-values → tie.After-work
+returned c = c .before .before .before .before .before
+
+abbrev called : tie.After-work → tie.After-run-colours
+called c = c .before .before .before .before .before .before .before
 
 -- nothing is refused
 accepting : (c : tie.Else1) → Accepted (asks (begun c)) (has (begun c))
@@ -47,9 +65,9 @@ check-requires c κs = search needs
 
 returns : tie.Need-returns
 returns c =
-    let start = c .before .before .before .before .before .before .before .before .before .before .before in
-    let the-check = c .before .before .check in
-    refuses (asks start) (has start) (the-check .result .number) (the-check .result .row) (the-check .result .column) (c .if1 .taken) (the-check .ensures (what start))
+    let k = c .before .before in
+    let s = begin k in
+    refuses (asks s) (has s) (k .check .result .number) (k .check .result .row) (k .check .result .column) (c .if1 .taken) (k .check .ensures (what s))
 
 classify-requires : tie.Need-classify-requires
 classify-requires c κs = search needs
@@ -57,9 +75,9 @@ classify-requires c κs = search needs
 mul-n : tie.Need-mul-n
 mul-n c =
     let passed = c .before .before .before .before in
-    let the-args = c .before .before .before .before .before .before .before .before .before .before .before .before .before .before .before .args in
+    let a = begun passed .args in
     let k = accepting passed .passing in
-    record { fits = omega (arith, area (side (the-args .height) (k .high) .1) (side (the-args .width) (k .wide) .1)) }
+    record { fits = omega (arith, area (side (a .height) (k .high) .1) (side (a .width) (k .wide) .1)) }
 
 slice-reshare-prefix-run-colours : tie.Need-slice-reshare-prefix-run-colours
 slice-reshare-prefix-run-colours c =
@@ -73,9 +91,8 @@ slice-aggregate-run-colours c =
 
 run-colours-requires : tie.Need-run-colours-requires
 run-colours-requires c κs =
-    let classified = c .before .before .before .before .before .before .before .before .before .before in
-    let passed = c .before .before .before .before .before .before .before .before .before .before .before .before in
-    rw (shown classified) (accepting passed .builds)
+    let k = classified (lending c) in
+    rw (shown k) (accepting (k .before .before) .builds)
 
 same-length : tie.Need-same-length
 same-length c = search needs
@@ -103,12 +120,11 @@ same-length-8 c = search needs
 
 returns-2 : tie.Need-returns-2
 returns-2 c =
-    let start = c .before .before .before .before .before .before .before .before .before .before .before .before .before .before .before .before .before .before .before .before .before .before .before .before .before .before .before .before .before .before .before .before .before .before .before .before in
-    let passed = c .before .before .before .before .before .before .before .before .before .before .before .before .before .before .before .before .before .before .before .before .before .before .before .before .before in
-    let the-classify = c .before .before .before .before .before .before .before .before .before .before .before .before .before .before .before .before .before .before .before .before .before .before .before .classify in
-    let classified = c .before .before .before .before .before .before .before .before .before .before .before .before .before .before .before .before .before .before .before .before .before .before .before in
-    let the-run-colours = c .before .before .before .before .before .before .before .before .before .before .before .before .run-colours in
-    drawn (asks start) (has start) _ (accepting passed .none) (painted (asks start) (has start) (accepting passed) (the-classify .last .1 .1 .1 .1 .0) (the-classify .ensures)) (rw (shown classified) at (the-run-colours .ensures))
+    let r = called (returned c) in
+    let k = classified (lending (r .before)) in
+    let passed = k .before .before in
+    let s = begun passed in
+    drawn (asks s) (has s) _ (accepting passed .none) (painted (asks s) (has s) (accepting passed) (k .classify .last .1 .1 .1 .1 .0) (k .classify .ensures)) (rw (shown k) at (r .run-colours .ensures))
 
 pub run-picture-spec : {M : Type 1} → statement M
 run-picture-spec =
