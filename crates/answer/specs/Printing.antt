@@ -1,4 +1,4 @@
--- What the helpers promise. Assumes nothing.
+-- Inner: what the helpers of `answer` promise. Assumes nothing.
 use mathlib.Core.Path.{_≡_}
 use mathlib.Core.List.{List}
 use Prim.Native.Nat.{ℕ, _≤_, _<_}

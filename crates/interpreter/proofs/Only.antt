@@ -26,7 +26,7 @@ use Rattle.interpreter.specs.declared.Forever.the-variants.{Refused, Yes
 use Rattle.interpreter.specs.Table.{wrongTable, validOf, every}
 use Rattle.interpreter.specs.Forever as Always
 use Rattle.interpreter.specs.Outcome.{refused, numbered, Outcome}
-use Rattle.interpreter.specs.Placed.{Resumed}
+use Rattle.interpreter.specs.Resume.{Resumed}
 use Rattle.interpreter.proofs.Settled.{settled}
 use Rattle.interpreter.proofs.Answering.{refuses, finishes}
 

@@ -18,7 +18,7 @@ use Rattle.machine.specs.Place.{Machine, End, start}
 use Rattle.machine.specs.Held.{Slices}
 use Rattle.interpreter.specs.declared.State.{State}
 use Rattle.interpreter.specs.declared.Ended.{Ended}
-use Rattle.interpreter.specs.Placed.{machineOf, Reaches, Resumed, Started}
+use Rattle.interpreter.specs.Resume.{machineOf, Reaches, Resumed, Started}
 use Rattle.interpreter.specs.Run.{Job, Went, goes, halts, stepOf, after, runOf}
 use Rattle.interpreter.specs.declared.Ran.{Ran}
 use Rattle.interpreter.specs.Outcome.{slicesOf, endedOf, resultOf, refusals, jobOf, endOf, Outcome}

@@ -11,7 +11,8 @@ use Rattle.machine.specs.Held.{Slices}
 use Rattle.machine.proofs.Only.{AsLong}
 use Rattle.interpreter.specs.Run.{Job, Went, goes, halts, after, stepOf, runOf}
 use Rattle.interpreter.specs.Outcome.{jobOf}
-use Rattle.interpreter.specs.Placed.{machineOf, Placed, nextOf, After, Steps, Reaches}
+use Rattle.interpreter.specs.Resume.{machineOf, Placed, Reaches}
+use Rattle.interpreter.specs.Moving.{nextOf, After, Steps}
 use Rattle.interpreter.specs.declared.State.{State}
 use Rattle.interpreter.specs.declared.stepping.Moved.the-variants.{To, Halted}
 

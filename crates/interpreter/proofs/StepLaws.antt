@@ -18,7 +18,8 @@ use Rattle.machine.specs.Held.{Slices, Stands, outOf, After as Left, Execs, atP
 use Rattle.interpreter.specs.Table.{pointersOf, opOf, sizeOf, tried, openFrom, exitOf, Good}
 use Rattle.interpreter.specs.Run.{arrive, through, stepOf}
 use Rattle.interpreter.specs.Outcome.{jobOf}
-use Rattle.interpreter.specs.Placed.{machineOf, nextOf, After, Steps}
+use Rattle.interpreter.specs.Resume.{machineOf}
+use Rattle.interpreter.specs.Moving.{nextOf, After, Steps}
 use Rattle.interpreter.specs.declared.State.{State}
 use Rattle.interpreter.specs.declared.stepping.Moved.{Moved}
 use Rattle.interpreter.specs.declared.stepping.Moved.the-variants.{To, Halted}

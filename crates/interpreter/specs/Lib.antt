@@ -1,8 +1,9 @@
--- The run: the lent table and refusal 10, one step, steps until a stop, the exits taken, what a call answers, and how the
--- code holds it.
+-- The run: the lent table and refusal 10, one step, steps until a stop, the exits taken, what a call answers, where a
+-- run may be taken up again, and how the code holds a step.
 pub mod Table
 pub mod Forever
 pub mod Run
 pub mod History
 pub mod Outcome
-pub mod Placed
+pub mod Resume
+pub mod Moving

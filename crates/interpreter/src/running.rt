@@ -2,7 +2,7 @@
 ghost use Rattle.machine.specs.Machine.{given};
 ghost use Rattle.machine.specs.Held.{slices};
 ghost use Rattle.interpreter.specs.Table.{Good};
-ghost use Rattle.interpreter.specs.Placed.{Placed, Resumed, Started, Resumable};
+ghost use Rattle.interpreter.specs.Resume.{Placed, Resumed, Started, Resumable};
 ghost use Rattle.interpreter.specs.Outcome.{Outcome};
 use crate::Ended;
 use crate::Ran;

@@ -38,7 +38,7 @@ use Rattle.interpreter.specs.declared.Ran.{Ran}
 use Rattle.interpreter.specs.declared.Ran.the-variants.{Finished}
 use Rattle.interpreter.specs.Table.{wrongMark, wrongExit, wrongExits, validOf, markOf}
 use Rattle.interpreter.specs.Outcome.{Outcome, endedOf, slicesOf, endOf}
-use Rattle.interpreter.specs.Placed.{Started, Resumed}
+use Rattle.interpreter.specs.Resume.{Started, Resumed}
 use Rattle.interpreter.proofs.ValidLaws.{any-nowhere}
 use Rattle.interpreter.proofs.Answering.{finishes}
 use Rattle.interpreter.proofs.Settled.{settled}
@@ -113,13 +113,13 @@ coloured p m r e w v h k =
     true≢false (sym (eq-eqb _ _ k) ∙ g .0)
 
 -- what is known of a table of n regions that was built from a picture: a run does not refuse it, and follows the picture
-record Runs (p : Picture) (map rows exits : List ℕ) (n : ℕ) : Type 0 where
+record Followed (p : Picture) (map rows exits : List ℕ) (n : ℕ) : Type 0 where
   valid : validOf n rows exits ≡ true
   follows : (g : Given) (l : Slices)
       → Follows p (take (codels p) map) g (roomOf l) (endOf rows exits g l) × (endOf rows exits g l .at .region < n)
 
 runs : {p : Picture} {map rows exits work map′ rows′ exits′ work′ : List ℕ} {n : ℕ}
-    → building.Outcome p map rows exits work (Done n) map′ rows′ exits′ work′ → Runs p map′ rows′ exits′ n
+    → building.Outcome p map rows exits work (Done n) map′ rows′ exits′ work′ → Followed p map′ rows′ exits′ n
 runs (building.refused k v e h) = absurd (refused-done k _ v h)
   where
     refused-done : (k n : ℕ) (v : List ℕ) → numbers 0 (n ∷ 0 ∷ []) ≡ numbers (suc k) v → ⊥

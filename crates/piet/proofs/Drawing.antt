@@ -64,6 +64,6 @@ pub drawn : (a : Asked) (l l′ : Lends) {r : Pictured} → refusalOf a l ≡ nu
     → l′ .colours ≡ lent (coloursUnder (a .pixels) (a .setting)) (l .colours)
     → Draws (a .height) (a .width) (a .codel) (a .given) (coloured a l) r (coloured a l′) → Outcome a l r l′
 drawn a l l′ {r} none colours D =
-    let F = picture-follows (D .built) (a .given) (l .run) (D .runs .outcome) in
+    let F = picture-follows (D .built) (a .given) (l .run) (D .ran .outcome) in
     let R : RanPicture a l l′ (F .0) = record { colours = colours; regions = D .regions; table = written (D .built); follows = F .2; inside = F .3; run = F .4 } in
-    subst (λ (x : Pictured). Outcome a l x l′) (sym (D .runs .is ∙ ap picturedOf (F .1))) (done none R)
+    subst (λ (x : Pictured). Outcome a l x l′) (sym (D .ran .is ∙ ap picturedOf (F .1))) (done none R)

@@ -1,4 +1,4 @@
--- What building and running leave, one after the other, of colours that building does not refuse. Assumes nothing.
+-- Inner: what building and running leave, one after the other, of colours that building does not refuse. Assumes nothing.
 use mathlib.Core.Path.{_≡_}
 use mathlib.Core.List.{List}
 use Prim.Native.Nat.{ℕ}
@@ -20,13 +20,13 @@ picturedOf (Ran.Finished e) = Finished e
 picturedOf (Ran.Refused number) = Refused number 0 0
 
 -- what the run of a table answers and leaves
-pub record Runs (n : ℕ) (rows exits : List ℕ) (g : Given) (l : Slices) (r : Pictured) (l′ : Slices) : Type 0 where
-  pub ran : Ran
-  pub is : r ≡ picturedOf ran
-  pub outcome : running.Outcome n rows exits g l ran l′
+pub record RanTable (n : ℕ) (rows exits : List ℕ) (g : Given) (l : Slices) (r : Pictured) (l′ : Slices) : Type 0 where
+  pub answer : Ran
+  pub is : r ≡ picturedOf answer
+  pub outcome : running.Outcome n rows exits g l answer l′
 
 pub record Draws (height width codel : ℕ) (g : Given) (l : Lends) (r : Pictured) (l′ : Lends) : Type 0 where
   pub regions : ℕ
   pub built : building.Outcome (picture height width codel (l .colours)) (l .map) (l .rows) (l .exits) (l .work) (Done regions)
       (l′ .map) (l′ .rows) (l′ .exits) (l′ .work)
-  pub runs : Runs regions (l′ .rows) (l′ .exits) g (l .run) r (l′ .run)
+  pub ran : RanTable regions (l′ .rows) (l′ .exits) g (l .run) r (l′ .run)

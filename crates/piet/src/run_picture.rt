@@ -12,7 +12,7 @@ ghost use Rattle.cfg.specs.Build as building;
 ghost use Rattle.machine.specs.Machine.{Given, given};
 ghost use Rattle.machine.specs.Held.{slices};
 ghost use Rattle.piet.specs.RunPicture.{Outcome, asked, lends, refusal};
-ghost use Rattle.piet.specs.Drawn.{Runs, Draws};
+ghost use Rattle.piet.specs.Drawn.{RanTable, Draws};
 use base::limits::wrong_side;
 use cfg::Built;
 use cfg::codel_count;
@@ -125,7 +125,7 @@ fn run_table(
     kinds: &mut [u8],
     values: &mut [i64],
 ) -> Pictured
-    ensures { λ r. ⌜ Runs n (now (rows .entry)) (now (exits .entry)) (given terms (now (input .entry))) (slices (now (stack .entry)) (now (kinds .entry)) (now (values .entry))) r (slices (now (stack .exit)) (now (kinds .exit)) (now (values .exit))) ⌝ }
+    ensures { λ r. ⌜ RanTable n (now (rows .entry)) (now (exits .entry)) (given terms (now (input .entry))) (slices (now (stack .entry)) (now (kinds .entry)) (now (values .entry))) r (slices (now (stack .exit)) (now (kinds .exit)) (now (values .exit))) ⌝ }
 {
     match interpreter::run(n, rows, exits, terms, input, stack, kinds, values) {
         Ran::Finished(e) => Pictured::Finished(e),

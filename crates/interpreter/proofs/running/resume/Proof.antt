@@ -7,7 +7,7 @@ use denote.Ref.{now}
 use Rattle.machine.specs.Machine.{Given, given}
 use Rattle.machine.specs.Held.{Slices, slices}
 use Rattle.machine.proofs.Only.{AsLong}
-use Rattle.interpreter.specs.Placed.{After}
+use Rattle.interpreter.specs.Moving.{After}
 use Rattle.interpreter.proofs.RunLaws.{Along, along-start, along-next, ends-halted, ends-limit}
 use Rattle.interpreter.proofs.running.resume.Statement.{statement}
 use Rattle.interpreter.proofs.running.resume.Tie as tie

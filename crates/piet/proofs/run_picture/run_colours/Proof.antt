@@ -60,7 +60,7 @@ returns c =
     record {
       regions = b .built .given .0 .0;
       built = named (b .built .given .1) (called (b .before .before) .build .ensures);
-      runs = ran c .run-table .ensures;
+      ran = ran c .run-table .ensures;
     }
 
 same-length-8 : tie.Need-same-length-8

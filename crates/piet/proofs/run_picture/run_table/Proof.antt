@@ -26,7 +26,7 @@ same-length-3 c = search needs
 returns : tie.Need-returns
 returns c =
     let the-run = c .before .before .before .before .before .before .before .run in
-    record { ran = the-run .result; is = rw (c .before .e .given .1) refl; outcome = the-run .ensures .0 }
+    record { answer = the-run .result; is = rw (c .before .e .given .1) refl; outcome = the-run .ensures .0 }
 
 same-length-4 : tie.Need-same-length-4
 same-length-4 c = search needs
@@ -40,7 +40,7 @@ same-length-6 c = search needs
 returns-2 : tie.Need-returns-2
 returns-2 c =
     let the-run = c .before .before .before .before .before .before .before .run in
-    record { ran = the-run .result; is = rw (c .before .number .given .1) refl; outcome = the-run .ensures .0 }
+    record { answer = the-run .result; is = rw (c .before .number .given .1) refl; outcome = the-run .ensures .0 }
 
 pub run-table-spec : {M : Type 1} → statement M
 run-table-spec =

@@ -1,0 +1,33 @@
+-- Inner: what the parts of a step promise, `go_through` and `step`. Assumes nothing.
+use mathlib.Core.Path.{_≡_}
+use mathlib.Core.List.{List}
+use Prim.Native.Nat.{ℕ, _+_}
+use Rattle.machine.specs.Machine.{Given}
+use Rattle.machine.specs.Held.{Slices}
+use Rattle.interpreter.specs.declared.State.{State}
+use Rattle.interpreter.specs.declared.stepping.Moved.{Moved}
+use Rattle.interpreter.specs.declared.stepping.Moved.the-variants.{To, Halted}
+use Rattle.interpreter.specs.Run.{Went, goes, halts, through, stepOf}
+use Rattle.interpreter.specs.Outcome.{jobOf}
+use Rattle.interpreter.specs.Resume.{machineOf, Placed}
+
+-- what a step came to, by what the slices hold after it
+unfoldable pub nextOf : Slices → Moved → Went
+nextOf l (To at) = goes (machineOf l at)
+nextOf l (Halted s) = halts s
+
+-- "A step that can't be kept isn't taken, and everything stands as before it"
+unfoldable pub After : ℕ → Slices → State → Slices → Moved → Type 0
+After n l at l′ (To at′) = Placed n l′ at′ × (at′ .steps ≡ at .steps + 1)
+After n l at l′ (Halted s) = l′ ≡ l
+
+-- the place and the slices after a step are those of next
+pub record Steps (next : Went) (n : ℕ) (l : Slices) (at : State) (l′ : Slices) (r : Moved) : Type 0 where
+  pub is : nextOf l′ r ≡ next
+  pub leaves : After n l at l′ r
+
+abbrev pub Gone : ℕ → List ℕ → List ℕ → Given → ℕ → Slices → State → Slices → Moved → Type 0
+Gone n rows exits g w l at l′ r = Steps (through (jobOf rows exits g l) w (machineOf l at)) n l at l′ r
+
+abbrev pub Stepped : ℕ → List ℕ → List ℕ → Given → Slices → State → Slices → Moved → Type 0
+Stepped n rows exits g l at l′ r = Steps (stepOf (jobOf rows exits g l) (machineOf l at)) n l at l′ r
