@@ -71,7 +71,7 @@ module _ {p : Picture} {map rows exits work map′ rows′ exits′ work′ : Li
   }
 
   mark-right : (r : ℕ) → r < n → wrongMark rows′ r ≡ false
-  mark-right r h = le-ltb 1 (markOf rows′ r) (rw (row-cell r markField h (omega arith)) at (mark-small (B .row r h .node)))
+  mark-right r h = le-ltb 1 (markOf rows′ r) (rw (row-cell r markField h (omega arith)) at (mark-small (B .node r h)))
 
   exit-right : (i : ℕ) → i < exitsRoom n → wrongExit n (getD exits′ i 0) ≡ false
   exit-right i h =
