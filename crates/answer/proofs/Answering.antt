@@ -9,7 +9,7 @@ use Rattle.base.specs.Lent.{Put, lent}
 use Rattle.base.proofs.Over.{over-zero}
 use Rattle.base.proofs.Refusals as refusing
 use Rattle.interpreter.specs.declared.Ended.{Ended}
-use Rattle.interpreter.specs.Run.{End}
+use Rattle.machine.specs.Place.{End}
 use Rattle.interpreter.specs.Outcome.{endedOf}
 use Rattle.piet.specs.declared.run_picture.Pictured.{Pictured}
 use Rattle.piet.specs.declared.run_picture.Pictured.the-variants.{Finished, Refused}

@@ -15,18 +15,19 @@ use Rattle.picture.proofs.Codels.{inside-of, row-in, col-in}
 use Rattle.region.specs.Grid.{gridOf}
 use Rattle.region.specs.Rows.{Row}
 use Rattle.region.proofs.MapLaws.{map-few}
-use Rattle.table.specs.Layout.{rowCell, rowsRoom, colourField, rowField, columnField, rowAt}
+use Rattle.table.specs.Layout.{rowCell, rowsRoom, colourField, rowField, columnField, fieldAt, rowAt}
+use Rattle.table.proofs.Cells as cells
 use Rattle.cfg.specs.Build.{legalFirst, Enough}
 use Rattle.cfg.proofs.Refusing as building
-use Rattle.machine.specs.Held.{Slices}
-use Rattle.interpreter.specs.Run.{End}
+use Rattle.machine.specs.Held.{Slices, roomOf}
+use Rattle.machine.specs.Place.{End}
 use Rattle.interpreter.specs.Outcome.{slicesOf, endedOf}
-use Rattle.piet.specs.RunPicture.{Lends, lends, RanPicture, given}
+use Rattle.piet.specs.RunPicture.{Lends, lends, askedPicture, RanPicture}
 use Rattle.piet.specs.RunPicture as running
 use Rattle.piet.proofs.Refusing as picture
 use Rattle.piet.proofs.Seeing.{legal-under}
 use Rattle.job.specs.Encoding.{Content}
-use Rattle.answer.specs.Answer.{askedOf, refusalOf, givenOf, Ran, endText}
+use Rattle.answer.specs.Answer.{askedOf, refusalOf, runRoom, Ran, endText}
 use Rattle.answer.specs.Printing.{HasLabel, labelIn, linesOf, Printable}
 use Rattle.answer.proofs.Slices.{stack-back, stack-few, outs-back, outs-few}
 
@@ -53,8 +54,8 @@ fresh-sized = record { colours = refl; map = refl; rows = refl; exits = refl; wo
 pub same-refusal : (c : Content) {l : Lends} → Sized l → running.refusalOf (askedOf c) l ≡ refusalOf c
 same-refusal c s = rw (s .colours, s .map, s .rows, s .exits, s .work)
 
-same-given : (c : Content) {l : Lends} → Sized l → given (askedOf c) (l .run) ≡ givenOf c
-same-given c s = rw (s .stack, s .kinds, s .values)
+same-room : {l : Lends} → Sized l → roomOf (l .run) ≡ runRoom
+same-room s = rw (s .stack, s .kinds, s .values)
 
 -- no colour is above 19 where the scan finds none
 legal-at : (cs : List ℕ) → length cs ≤ legalFirst cs → (i : ℕ) → getD cs i 0 ≤ 19
@@ -88,17 +89,17 @@ module _ (c : Content) {l l′ : Lends} {e : End} (s : Sized l) (s′ : Sized l�
   region-in : r < codels p
   region-in = omega (arith, R .inside, map-few (gridOf p) m (R .regions) (R .table .builds .regions))
 
-  cell : (k : ℕ) → k < 5 → getD (take (rowsRoom (codels p)) (l′ .rows)) (rowCell r k) 0 ≡ getD (l′ .rows) (rowCell r k) 0
-  cell k q = getD-take (rowsRoom (codels p)) (l′ .rows) (rowCell r k) 0 (omega (arith, region-in))
+  cell : (k : ℕ) → k < 5 → fieldAt (take (rowsRoom (codels p)) (l′ .rows)) r k ≡ fieldAt (l′ .rows) r k
+  cell k q = getD-take (rowsRoom (codels p)) (l′ .rows) (rowCell r k) 0 (cells.row-in (codels p) r k q region-in)
 
-  colour-is : getD (l′ .rows) (rowCell r colourField) 0 ≡ codelColour p (row .first)
-  colour-is = sym (cell 0 (omega arith)) ∙ row .colour
+  colour-is : fieldAt (l′ .rows) r colourField ≡ codelColour p (row .first)
+  colour-is = sym (cell colourField (omega arith)) ∙ row .colour
 
-  row-is : getD (l′ .rows) (rowCell r rowField) 0 ≡ row .first / colsOf p * p .codel
-  row-is = sym (cell 2 (omega arith)) ∙ row .row
+  row-is : fieldAt (l′ .rows) r rowField ≡ row .first / colsOf p * p .codel
+  row-is = sym (cell rowField (omega arith)) ∙ row .row
 
-  column-is : getD (l′ .rows) (rowCell r columnField) 0 ≡ row .first % colsOf p * p .codel
-  column-is = sym (cell 3 (omega arith)) ∙ row .column
+  column-is : fieldAt (l′ .rows) r columnField ≡ row .first % colsOf p * p .codel
+  column-is = sym (cell columnField (omega arith)) ∙ row .column
 
   has-label : HasLabel (l′ .rows) r
   has-label =
@@ -165,6 +166,6 @@ module _ (c : Content) {l l′ : Lends} {e : End} (s : Sized l) (s′ : Sized l�
     regions = R .regions;
     long = R .table .builds .map-long;
     numbered = R .table .builds .regions;
-    follows = rw (same-given c s) at (R .follows);
+    follows = rw (same-room s) at (R .follows);
     labelled = record { first = row .first; is-first = row .is-first; is = rw (colour-is, row-is, column-is) };
   }

@@ -14,12 +14,13 @@ use Rattle.picture.specs.Picture.{Picture, colsOf, codels, codelColour}
 use Rattle.region.specs.Grid.{gridOf}
 use Rattle.region.proofs.MapLaws.{unique}
 use Rattle.region.proofs.RowLaws.{first-one}
-use Rattle.interpreter.specs.Run.{End}
+use Rattle.machine.specs.Place.{End}
+use Rattle.piet.specs.RunPicture.{askedPicture}
 use Rattle.piet.proofs.FollowsOnly.{picture-only}
 use Rattle.job.specs.Encoding.{Content}
 use Rattle.job.proofs.Only.{content-only}
 use Rattle.report.specs.Text.{refusalText}
-use Rattle.answer.specs.Answer.{askedOf, refusalOf, givenOf, Labels, Ran, endText, Answers, no-job, refused, ran, Outcome, short, printed}
+use Rattle.answer.specs.Answer.{askedOf, refusalOf, runRoom, Labels, Ran, endText, Answers, no-job, refused, ran, Outcome, short, printed}
 use Rattle.answer.proofs.Ending.{enough}
 
 labels-only : {p : Picture} {map : List ℕ} {r : ℕ} {x y : List ℕ} → Labels p map r x → Labels p map r y → x ≡ y
@@ -37,7 +38,7 @@ module _ (c : Content) {map map′ : List ℕ} {e e′ : End} {x x′ : List ℕ
       (λ i k. unique (gridOf (askedPicture (askedOf c))) map map′ (A .regions) (B .regions) (A .numbered) (B .numbered) .0 i (omega (arith, A .long)))
 
   same-end : e ≡ e′
-  same-end = picture-only (enough c h .sound) (A .long) (B .long) (A .numbered) (B .numbered) (givenOf c) (A .follows) (B .follows)
+  same-end = picture-only (enough c h .sound) (A .long) (B .long) (A .numbered) (B .numbered) (askedOf c .given) runRoom (A .follows) (B .follows)
 
   same-label : x ≡ x′
   same-label =

@@ -4,15 +4,15 @@ use mathlib.Core.List.{List, [], _∷_}
 use Prim.Native.Nat.{ℕ, suc, _*_, _/_, _%_, _<_, _≤_}
 use lib.ListN.{length}
 use Rattle.base.specs.Lent.{lent}
-use Rattle.base.specs.Numbers.{Numbers, numbers}
+use Rattle.base.specs.Numbers.{Numbers, numbers, numberOf}
 use Rattle.colour.specs.Label.{labelOf}
 use Rattle.picture.specs.Picture.{Picture, colsOf, codels, codelColour}
 use Rattle.region.specs.Grid.{gridOf}
 use Rattle.region.specs.Region.{IsMap}
 use Rattle.region.specs.Rows.{First}
-use Rattle.machine.specs.Machine.{statusOf}
-use Rattle.interpreter.specs.Run.{End}
-use Rattle.piet.specs.Follows.{Given, Follows}
+use Rattle.machine.specs.Machine.{given, RunRoom, statusOf}
+use Rattle.machine.specs.Place.{End}
+use Rattle.piet.specs.Follows.{Follows}
 use Rattle.piet.specs.RunPicture.{Asked, asked, askedPicture, refusal}
 use Rattle.job.specs.declared.Job.the-variants.{Refused}
 use Rattle.job.specs.Encoding.{Content, IsJob}
@@ -21,15 +21,16 @@ use Rattle.report.specs.Text.{resultText, refusalText}
 
 -- what a job asks of a run: "Setting 0"
 abbrev pub askedOf : Content → Asked
-askedOf c = asked (c .pixels) (c .height) (c .width) 0 (c .codel) (c .limit) (c .abstracted) (c .input)
+askedOf c =
+    asked (c .pixels) (c .height) (c .width) 0 (c .codel) (given (record { limit = c .limit; «abstract_mode» = c .abstracted }) (c .input))
 
 -- "the refusals of classifying, then of building"; "room for 512 pixels", and so for the table of 512 codels
 abbrev pub refusalOf : Content → Numbers
 refusalOf c = refusal (askedOf c) 512 512 2560 4096 512
 
 -- "256 stack cells, 256 outputs"
-abbrev pub givenOf : Content → Given
-givenOf c = record { mode = c .abstracted; input = c .input; stackRoom = 256; outRoom = 256 }
+abbrev pub runRoom : RunRoom
+runRoom = record { stack = 256; outs = 256 }
 
 -- the label of region r: that of its first codel, whose top left pixel is the region's first pixel
 pub record Labels (p : Picture) (map : List ℕ) (r : ℕ) (label : List ℕ) : Type 0 where
@@ -42,7 +43,7 @@ pub record Ran (c : Content) (map : List ℕ) (e : End) (label : List ℕ) : Typ
   pub regions : ℕ
   pub long : length map ≡ codels (askedPicture (askedOf c))
   pub numbered : IsMap (gridOf (askedPicture (askedOf c))) map regions
-  pub follows : Follows (askedPicture (askedOf c)) map (givenOf c) (c .limit) e
+  pub follows : Follows (askedPicture (askedOf c)) map (askedOf c .given) runRoom e
   pub labelled : Labels (askedPicture (askedOf c)) map (e .at .region) label
 
 -- status, steps, label, dp, cc, stack and outputs of an end
@@ -54,7 +55,7 @@ endText e label =
 -- the text that is printed for a list of bytes
 pub data Answers (job : List ℕ) : List ℕ → Type 0 where
   -- "anything else is 11, tested first"
-  no-job : ((c : Content) → IsJob job c → ⊥) → Answers job (refusalText (reading.numbered Refused))
+  no-job : ((c : Content) → IsJob job c → ⊥) → Answers job (refusalText (numberOf (reading.numbered Refused)))
   -- "A refusal prints `refused N`"
   refused : (c : Content) → IsJob job c → (k : ℕ) (v : List ℕ) → refusalOf c ≡ numbers (suc k) v → Answers job (refusalText (suc k))
   ran : (c : Content) → IsJob job c → refusalOf c ≡ numbers 0 (0 ∷ 0 ∷ []) → (map : List ℕ) (e : End) (label : List ℕ) → Ran c map e label

@@ -3,9 +3,9 @@ use mathlib.Core.Path.{_≡_}
 use mathlib.Core.List.{List}
 use Prim.Native.Nat.{ℕ, _≤_, _<_}
 use lib.IntN.{ℤ}
-use lib.ListN.{length, getD, take}
+use lib.ListN.{length, take}
 use Rattle.colour.specs.Label.{labelOf}
-use Rattle.table.specs.Layout.{rowCell, colourField, rowField, columnField}
+use Rattle.table.specs.Layout.{rowCell, colourField, rowField, columnField, fieldAt}
 use Rattle.stack.specs.Stack.{stackOf}
 use Rattle.machine.specs.Output.{outsOf}
 use Rattle.machine.specs.Machine.{statusOf}
@@ -28,11 +28,11 @@ pub record Legal (colour row column : ℕ) : Type 0 where
 pub record HasLabel (rows : List ℕ) (r : ℕ) : Type 0 where
   pub few : r ≤ 65536
   pub there : rowCell r columnField < length rows
-  pub legal : Legal (getD rows (rowCell r colourField) 0) (getD rows (rowCell r rowField) 0) (getD rows (rowCell r columnField) 0)
+  pub legal : Legal (fieldAt rows r colourField) (fieldAt rows r rowField) (fieldAt rows r columnField)
 
 -- the label by region r's row
 abbrev pub labelIn : List ℕ → ℕ → List ℕ
-labelIn rows r = labelOf (getD rows (rowCell r colourField) 0) (getD rows (rowCell r rowField) 0) (getD rows (rowCell r columnField) 0)
+labelIn rows r = labelOf (fieldAt rows r colourField) (fieldAt rows r rowField) (fieldAt rows r columnField)
 
 -- the lines of where a run ended, by the rows and the three lent slices
 abbrev pub linesOf : Ended → List ℕ → List ℤ → List ℕ → List ℤ → List ℕ

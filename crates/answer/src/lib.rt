@@ -12,6 +12,7 @@ use colour::label::Labelled;
 use interpreter::Ended;
 use job::Job;
 use job::Parts;
+use machine::Terms;
 use piet::run_picture::Pictured;
 use piet::run_picture::run_picture;
 use report::Figures;
@@ -102,14 +103,17 @@ fn run_parts(
     let settings = p.settings;
     let input = p.input;
     let end = p.end;
+    let terms = Terms {
+        limit: p.limit,
+        abstract_mode: p.abstracted,
+    };
     run_picture(
         &job[pixels..settings],
         p.height,
         p.width,
         0,
         p.codel,
-        p.limit,
-        p.abstracted,
+        terms,
         &job[input..end],
         colours,
         map,

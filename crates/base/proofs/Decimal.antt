@@ -1,12 +1,17 @@
--- Laws of decimal digits. Assumes nothing.
+-- Laws of decimal digits.
+--     decimal-small, decimal-more                   a number below ten; a larger one by its last digit
+--     decimal-length                                how many there are at most
+--     decimal-value, decimal-some, decimal-lead     they have the number as their value, there is one, and the first is
+--                                                   not `0` but for the number 0
+-- Assumes nothing.
 use mathlib.Core.Path.{_≡_, _∙_, sym, refl}
 use mathlib.Core.List.{List, [], _∷_, _++_}
-use Prim.Native.Nat.{ℕ, zero, suc, _+_, _*_, _/_, _%_, _^_, _<_, _≤_}
+use Prim.Native.Nat.{ℕ, zero, suc, _+_, _*_, _-_, _/_, _%_, _^_, _<_, _≤_}
 use native.Mathlib.Omega.{arith}
 use native.Mathlib.Nat.{pow-suc, div-lt-iff-lt-mul}
 use borrow.Author.Tests.{lt-ltb, le-ltb}
-use lib.ListN.{length, length-append}
-use Rattle.base.specs.Text.{digits, decimal}
+use lib.ListN.{length, getD, length-append, List·getD-append}
+use Rattle.base.specs.Text.{digits, decimal, valueAfter}
 use Rattle.base.proofs.Tests.{by-size}
 
 small : (f n : ℕ) → n < 10 → digits f n ≡ (48 + n) ∷ []
@@ -42,3 +47,48 @@ decimal-length (suc k) n h =
     let e : n < 10 ^ suc k * 10 = rw pow-suc at h in
     rw (decimal-more n l, length-append)
     (omega (arith, decimal-length k (n / 10) (div-lt-iff-lt-mul {k = 10} (omega arith) .1 e))))
+
+-- digits after digits
+value-append : (n : ℕ) (a b : List ℕ) → valueAfter n (a ++ b) ≡ valueAfter (valueAfter n a) b
+unfolding valueAfter
+value-append n [] b = refl
+value-append n (d ∷ a) b = value-append (n * 10 + (d - 0x30)) a b
+
+one-value : (n : ℕ) → valueAfter 0 ((48 + n) ∷ []) ≡ n
+unfolding valueAfter
+one-value n = omega arith
+
+digits-value : (f n : ℕ) → n ≤ f → valueAfter 0 (digits f n) ≡ n
+unfolding digits valueAfter
+digits-value zero n h = one-value n
+digits-value (suc f) n h =
+    by-size n 10 (λ l. rw (small (suc f) n l) (one-value n))
+    (λ l. rw (le-ltb n 10 l, value-append, digits-value f (n / 10) (omega arith)) (omega arith))
+
+digits-some : (f n : ℕ) → 0 < length (digits f n)
+unfolding digits
+digits-some zero n = omega arith
+digits-some (suc f) n =
+    by-size n 10 (λ l. rw (small (suc f) n l) (omega arith))
+    (λ l. rw (le-ltb n 10 l, length-append) (omega arith))
+
+digits-lead : (f n : ℕ) → n ≤ f → 0 < n → 48 < getD (digits f n) 0 0
+unfolding digits
+digits-lead zero n h p = absurd (omega arith)
+digits-lead (suc f) n h p =
+    by-size n 10 (λ l. rw (small (suc f) n l) (omega arith))
+    (λ l.
+    let d = digits-some f (n / 10) in
+    rw (le-ltb n 10 l, List·getD-append) (digits-lead f (n / 10) (omega arith) (omega arith)))
+
+pub decimal-value : (n : ℕ) → valueAfter 0 (decimal n) ≡ n
+unfolding decimal
+decimal-value n = digits-value n n (omega arith)
+
+pub decimal-some : (n : ℕ) → 0 < length (decimal n)
+unfolding decimal
+decimal-some n = digits-some n n
+
+pub decimal-lead : (n : ℕ) → 0 < n → 48 < getD (decimal n) 0 0
+unfolding decimal
+decimal-lead n p = digits-lead n n (omega arith) p

@@ -1,7 +1,7 @@
 -- Text as bytes. Assumes nothing.
 use mathlib.Core.Bool.{cond}
 use mathlib.Core.List.{List, [], _∷_, _++_}
-use Prim.Native.Nat.{ℕ, zero, suc, _+_, _/_, _%_}
+use Prim.Native.Nat.{ℕ, zero, suc, _+_, _*_, _-_, _/_, _%_}
 use Prim.Native.Char.{code}
 use Prim.Native.String.{String, [] as empty, _∷_ as _then_}
 use lib.Dec.{ltb}
@@ -18,3 +18,8 @@ digits (suc steps) n = cond (ltb n 10) ((48 + n) ∷ []) (digits steps (n / 10) 
 
 unfoldable pub decimal : ℕ → List ℕ
 decimal n = digits n n
+
+-- the value of ASCII digits that stand after a number n; `decimal n` has the value n (proofs/Decimal.antt)
+unfoldable pub valueAfter : ℕ → List ℕ → ℕ
+valueAfter n [] = n
+valueAfter n (b ∷ bs) = valueAfter (n * 10 + (b - 0x30)) bs

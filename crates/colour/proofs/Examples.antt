@@ -1,18 +1,13 @@
--- Document 01's lines that are to be proved, and what the definitions say of the whole palette. Assumes nothing.
+-- What the definitions say of the whole palette, of an unknown pixel, and of labels. Assumes nothing.
 use mathlib.Core.Path.{_≡_, refl}
 use mathlib.Core.List.{List, [], _∷_, _++_, map}
-use Prim.Native.Nat.{ℕ}
+use lib.ListN.{getD}
 use Rattle.colour.specs.declared.palette.Found.{Found}
 use Rattle.colour.specs.declared.palette.Found.the-variants.{Known, Unknown}
-use Rattle.colour.specs.Palette.{rgb, palette, colourOf, numberIn}
-use Rattle.colour.specs.Decode.{decodeOf}
+use Rattle.colour.specs.Palette.{rgb, palette, colourOf, numberIn, pixelsOf}
+use Rattle.colour.specs.Classify.{found, colourUnder, coloursUnder}
 use Rattle.base.specs.Text.{ascii, decimal, digits}
 use Rattle.colour.specs.Label.{labelOf, name, place}
-
--- light red to red Push; dark red to light magenta IntOut; light blue to light red Div
-pub decoded : (decodeOf 12 6 ≡ 1) × ((decodeOf 0 17 ≡ 17) × (decodeOf 16 12 ≡ 6))
-unfolding decodeOf
-decoded = (refl, (refl, refl))
 
 -- no two colours have the same bytes: each is found under its own number
 pub numbered :
@@ -25,6 +20,14 @@ numbered = refl
 pub unknown : colourOf (rgb 0xC0 0xC0 0xC0) ≡ Unknown
 unfolding colourOf numberIn
 unknown = refl
+
+-- "2 makes it white, 3 black": the number of such a pixel, and the bytes that the page gives that colour
+pub substituted :
+    (coloursUnder (0xC0 ∷ 0xC0 ∷ 0xC0 ∷ []) 2 ≡ 19 ∷ [])
+    × ((coloursUnder (0xC0 ∷ 0xC0 ∷ 0xC0 ∷ []) 3 ≡ 18 ∷ [])
+    × ((getD palette 19 (rgb 0 0 1) ≡ rgb 0xFF 0xFF 0xFF) × (getD palette 18 (rgb 0 0 1) ≡ rgb 0 0 0)))
+unfolding coloursUnder found pixelsOf colourOf numberIn colourUnder
+substituted = (refl, (refl, (refl, refl)))
 
 pub labels :
     (labelOf 6 0 1 ≡ ascii "RegRed_0_1") × ((labelOf 17 1023 1010 ≡ ascii "LightMagenta_1023_1010") × (labelOf 18 0 0 ≡ ascii "Entry"))

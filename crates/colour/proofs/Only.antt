@@ -1,6 +1,12 @@
--- The contracts of `classify` and `label` determine the answer and the lent list. Assumes nothing.
+-- Two outcomes that a contract allows for one input are equal, answer and lent list, for each public function:
+--     classify                                       classify-only
+--     check                                          check-only
+--     in_numbers, placeless                          told-only
+--     label                                          label-only
+--     found_at, colour_under, colour_of, decode      `equation-only` of base's proofs/Only.antt
+-- Assumes nothing.
 use mathlib.Core.Path.{_≡_, _∙_, sym, ap, refl}
-use mathlib.Core.List.{List}
+use mathlib.Core.List.{List, [], _∷_}
 use Prim.Native.Nat.{ℕ, zero, suc}
 use lib.ListN.{getD}
 use Rattle.base.specs.Lent.{lent}
@@ -9,6 +15,7 @@ use Rattle.colour.specs.Classify as classify
 use Rattle.colour.specs.Label as label
 use Rattle.colour.specs.declared.classify.Classified.{Classified}
 use Rattle.colour.specs.declared.classify.Classified.the-variants.{Done, Size, Setting, Bytes, Room, Pixel}
+use Rattle.colour.specs.declared.classify.Told.{Told}
 use Rattle.colour.specs.declared.label.Labelled.{Labelled}
 use Rattle.colour.specs.declared.label.Labelled.the-variants.{Done as Labels, Label}
 
@@ -37,12 +44,25 @@ labelled : (r : Labelled) → labelledOf (label.numbered r) ≡ r
 labelled (Labels n) = refl
 labelled Label = refl
 
+-- a contract `numbered r ≡ n`
+pub check-only : {n : Numbers} {r r′ : Classified} → classify.numbered r ≡ n → classify.numbered r′ ≡ n → r ≡ r′
+check-only {r = r} {r′ = r′} p q = sym (classified r) ∙ ap classifiedOf (p ∙ sym q) ∙ classified r′
+
+-- a contract of the number, the row and the column
+pub told-only : {n : Numbers} {t t′ : Told} → numbers (t .number) (t .row ∷ t .column ∷ []) ≡ n → numbers (t′ .number) (t′ .row ∷ t′ .column ∷ []) ≡ n
+    → t ≡ t′
+told-only {t = t} {t′ = t′} p q =
+    let e : t .number ≡ t′ .number = cc in
+    let f : t .row ≡ t′ .row = cc in
+    let g : t .column ≡ t′ .column = cc in
+    λ i. record { number = e i; row = f i; column = g i }
+
 -- two outcomes that `classify` may have for one input are one
 pub classify-only : {p : List ℕ} {h w s : ℕ} {before : List ℕ} {r r′ : Classified} {after after′ : List ℕ}
     → classify.Outcome p h w s before r after → classify.Outcome p h w s before r′ after′ → (r ≡ r′) × (after ≡ after′)
 classify-only {p} {h} {w} {s} {before} {r} {r′} o o′ =
     let e : classify.numbered r ≡ classify.numbered r′ = o .answers ∙ sym (o′ .answers) in (
-      sym (classified r) ∙ ap classifiedOf e ∙ classified r′,
+      check-only (o .answers) (o′ .answers),
       o .leaves ∙ ap (λ (n : Numbers). unlessRefused n (lent (classify.coloursUnder p s) before) before) e ∙ sym (o′ .leaves),
     )
 

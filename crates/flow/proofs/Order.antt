@@ -98,6 +98,11 @@ offset-attempt p k h hk =
     subst (λ (q : PointerState). offsetOf q (attemptOf q k) ≡ k) (of-number p h)
     (offset-table (stateNumber p) k (number-small p h) hk)
 
+-- an example that meets what `offset` asks for, which nothing here calls: from dp left, cc right the state with cc left
+-- is the one that is tried next
+pub offset-example : (Valid (ofNumber 5) × Valid (ofNumber 4)) × (offsetOf (ofNumber 5) (ofNumber 4) ≡ 1)
+offset-example = ((valid-number 5 (omega arith), valid-number 4 (omega arith)), refl)
+
 -- the attempt with a state's number is that state: "No two states tie"
 pub attempt-offset : (p t : PointerState) → Valid p → Valid t → attemptOf p (offsetOf p t) ≡ t
 attempt-offset p t hp ht =

@@ -1,12 +1,11 @@
 -- Laws that belong to no one function, and that the layers above cite.
-pub mod Validity
+pub mod ValidLaws
 pub mod Clearing
-pub mod Stepping
-pub mod Running
+pub mod StepLaws
+pub mod RunLaws
 pub mod Settled
-pub mod Attempts
-pub mod Moves
+pub mod Answering
+pub mod Histories
 pub mod Resuming
-pub mod Follow
 pub mod Only
 pub mod Examples

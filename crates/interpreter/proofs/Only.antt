@@ -1,126 +1,99 @@
--- Two outcomes that a contract allows for one input are equal, answer and every slices list, for each public function:
+-- Two outcomes that a contract allows for one input are equal, answer and every lent list, for each public function:
 --     run                       run-only
 --     resume                    resume-only
 --     determine_runs_forever    forever-only
 --     valid                     `equation-only` of base's proofs/Only.antt
--- and what is answered, in document 01's numbers:
---     run-answer, run-refusal   the table of refusals; 10 exactly where the table is not valid, and then nothing changes
---     forever-answer            the same of determine_runs_forever
+-- and what the answers say:
+--     run-refusal               10 exactly where the table is not valid, and then nothing changes
+--     forever-answer            which of its three answers `determine_runs_forever` gives
 -- Assumes nothing.
 use mathlib.Core.Path.{_≡_, refl, sym, ap, _∙_}
 use mathlib.Core.Bool.{Bool, true, false, not, cond}
 use mathlib.Core.List.{List, [], _∷_}
 use Prim.Native.Nat.{ℕ}
 use native.Mathlib.Omega.{arith}
-use lib.IntN.{ℤ}
-use Rattle.base.specs.Numbers.{numbers, row, first}
+use lib.Dec.{eqb}
+use lib.ListN.{getD}
+use Rattle.base.specs.Numbers.{Numbers, numbers, numberOf, valuesOf, row, first}
+use Rattle.machine.specs.Machine.{Given}
 use Rattle.machine.specs.Held.{Slices}
 use Rattle.machine.proofs.Only.{AsLong}
 use Rattle.interpreter.specs.declared.State.{State}
 use Rattle.interpreter.specs.declared.Ended.{Ended}
 use Rattle.interpreter.specs.declared.Ran.{Ran}
-use Rattle.interpreter.specs.declared.Ran.the-variants.{Refused, Finished}
 use Rattle.interpreter.specs.declared.Forever.{Forever}
+use Rattle.interpreter.specs.declared.Forever.the-variants.{Refused, Yes, No}
 use Rattle.interpreter.specs.Table.{wrongTable, validOf, every}
-use Rattle.interpreter.specs.declared.Forever.the-variants as Verdict
 use Rattle.interpreter.specs.Forever as Always
-use Rattle.interpreter.specs.Run.{End, runOf, start}
-use Rattle.interpreter.specs.Outcome.{Outcome, outcome, outcomeOf, jobOf, finished, endedOf, resultOf, refused, numbered, refusals}
+use Rattle.interpreter.specs.Outcome.{refused, numbered, Outcome}
 use Rattle.interpreter.specs.Placed.{Resumed}
-use Rattle.base.proofs.Clash.{clash}
 use Rattle.interpreter.proofs.Settled.{settled}
+use Rattle.interpreter.proofs.Answering.{refuses, finishes}
 
-module _ (n : ℕ) (rows exits : List ℕ) (limit : ℕ) (mode : Bool) (input : List ℕ) (l : Slices) where
-  pub run-only : {r r′ : Ran} {stack stack′ : List ℤ} {kinds kinds′ : List ℕ} {values values′ : List ℤ}
-      → outcome r stack kinds values ≡ outcomeOf n rows exits limit mode input l
-      → outcome r′ stack′ kinds′ values′ ≡ outcomeOf n rows exits limit mode input l
-      → (r ≡ r′) × (stack ≡ stack′) × (kinds ≡ kinds′) × (values ≡ values′)
-  run-only p q =
-      let e = p ∙ sym q in (
-        ap (λ (x : Outcome). x .answer) e,
-        ap (λ (x : Outcome). x .slices .stack) e,
-        ap (λ (x : Outcome). x .slices .kinds) e,
-        ap (λ (x : Outcome). x .slices .values) e,
-      )
-
-  -- the answer is that of the table of refusals, or of the run
-  pub run-answer : {r : Ran} {stack : List ℤ} {kinds : List ℕ} {values : List ℤ}
-      → outcome r stack kinds values ≡ outcomeOf n rows exits limit mode input l
-      → numbered r ≡ first (refusals n rows exits)
-      (numbers 0 (resultOf (endedOf (runOf (jobOf rows exits mode input l) limit start))))
-  unfolding numbered first
-  run-answer {r} p = ap (λ (x : Outcome). numbered (x .answer)) p ∙ go (wrongTable n rows exits)
+module _ (n : ℕ) (rows exits : List ℕ) (g : Given) (l : Slices) where
+  pub run-only : {r r′ : Ran} {l′ l″ : Slices} → Outcome n rows exits g l r l′ → Outcome n rows exits g l r′ l″ → (r ≡ r′) × (l′ ≡ l″)
+  run-only {r} {r′} {l′} {l″} p q = go (validOf n rows exits) refl
     where
-      e : End
-      e = runOf (jobOf rows exits mode input l) limit start
+      go : (t : Bool) → validOf n rows exits ≡ t → (r ≡ r′) × (l′ ≡ l″)
+      go true v =
+          let a = finishes n rows exits g l p v in
+          let b = finishes n rows exits g l q v in
+          (a .0 ∙ sym (b .0), a .1 ∙ sym (b .1))
+      go false v =
+          let a = refuses n rows exits g l p v in
+          let b = refuses n rows exits g l q v in
+          (a .0 ∙ sym (b .0), a .1 ∙ sym (b .1))
 
-      go : (t : Bool)
-          → numbered (cond {A = Outcome} (not t) (finished l e) (record { answer = Refused; slices = l }) .answer)
-          ≡ first (row t refused ∷ []) (numbers 0 (resultOf (endedOf e)))
-      go true = refl
-      go false = refl
-
-  -- 10 exactly where the table is not valid, and then "no slices byte changes"
-  pub record Refusal (r : Ran) (stack : List ℤ) (kinds : List ℕ) (values : List ℤ) : Type 0 where
-    pub given : validOf n rows exits ≡ false → numbered r ≡ refused
+  -- 10 exactly where the table is not valid, and then "no lent byte changes"
+  pub record Refusal (r : Ran) (l′ : Slices) : Type 0 where
+    pub given : validOf n rows exits ≡ false → numbered r ≡ refused 10
     pub only-then : (values : List ℕ) → numbered r ≡ numbers 10 values → validOf n rows exits ≡ false
-    pub unchanged : validOf n rows exits ≡ false → (stack ≡ l .stack) × (kinds ≡ l .kinds) × (values ≡ l .values)
+    pub unchanged : validOf n rows exits ≡ false → l′ ≡ l
 
-  pub run-refusal : {r : Ran} {stack : List ℤ} {kinds : List ℕ} {values : List ℤ}
-      → outcome r stack kinds values ≡ outcomeOf n rows exits limit mode input l → Refusal r stack kinds values
+  pub run-refusal : {r : Ran} {l′ : Slices} → Outcome n rows exits g l r l′ → Refusal r l′
   unfolding numbered
-  run-refusal {r} {stack} {kinds} {values} p = go (validOf n rows exits) refl p
+  run-refusal {r} {l′} o = record {
+    given = λ v. ap numbered (refuses n rows exits g l o v .0);
+    only-then = λ u h. go u h (validOf n rows exits) refl;
+    unchanged = λ v. refuses n rows exits g l o v .1;
+  }
     where
-      e : End
-      e = runOf (jobOf rows exits mode input l) limit start
+      go : (u : List ℕ) → numbered r ≡ numbers 10 u → (t : Bool) → validOf n rows exits ≡ t → validOf n rows exits ≡ false
+      go u h true v =
+          let z : _≡_ {A = ℕ} 10 0 = sym (ap numberOf h) ∙ ap (λ (x : Ran). numberOf (numbered x)) (finishes n rows exits g l o v .0) in
+          absurd (omega arith)
+      go u h false v = v
 
-      go : (t : Bool) → validOf n rows exits ≡ t
-          → outcome r stack kinds values ≡ cond t (finished l e) (record { answer = Refused; slices = l })
-          → Refusal r stack kinds values
-      go true v q =
-          let a : numbered r ≡ numbers 0 (resultOf (endedOf e)) = ap (λ (x : Outcome). numbered (x .answer)) q in
-          record {
-            given = λ f. absurd (never (sym v ∙ f));
-            only-then = λ u b. absurd (ten u (sym b ∙ a));
-            unchanged = λ f. absurd (never (sym v ∙ f));
-          }
-        where
-          never : true ≡ false → ⊥
-          never q = clash cc
-
-          ten : (u : List ℕ) {w : List ℕ} → numbers 10 u ≡ numbers 0 w → ⊥
-          ten u q = let z : _≡_ {A = ℕ} 10 0 = cc in omega arith
-      go false v q = record {
-        given = λ _. ap (λ (x : Outcome). numbered (x .answer)) q;
-        only-then = λ _ _. v;
-        unchanged =
-            λ _. (ap (λ (x : Outcome). x .slices .stack) q, ap (λ (x : Outcome). x .slices .kinds) q, ap (λ (x : Outcome). x .slices .values) q);
-      }
-
--- a call leaves the length of a slices slice as it is
-module _ (n : ℕ) (rows exits : List ℕ) (limit : ℕ) (mode : Bool) (input : List ℕ) (l : Slices) (from : State) where
+-- a call leaves the length of a lent slice as it is
+module _ (n : ℕ) (rows exits : List ℕ) (g : Given) (l : Slices) (from : State) where
   pub resume-only : (l′ l″ : Slices) (r r′ : Ended) → AsLong l′ l → AsLong l″ l
-      → Resumed n rows exits limit mode input l from l′ r → Resumed n rows exits limit mode input l from l″ r′
-      → (r ≡ r′) × (l′ ≡ l″)
+      → Resumed n rows exits g l from l′ r → Resumed n rows exits g l from l″ r′ → (r ≡ r′) × (l′ ≡ l″)
   resume-only l′ l″ r r′ h k p q =
-      let x = settled n _ l′ l r h p ∙ sym (settled n _ l″ l r′ k q) in
-      (ended (ap (λ (o : Outcome). o .answer) x), ap (λ (o : Outcome). o .slices) x)
-    where
-      ended : {a b : Ended} → Finished a ≡ Finished b → a ≡ b
-      ended e = cc
+      let a = settled n _ l′ l r h p in
+      let b = settled n _ l″ l r′ k q in
+      (a .0 ∙ sym (b .0), a .1 ∙ sym (b .1))
+
+-- the answer that its numbers name
+abbrev toldBy : Numbers → Forever
+toldBy x = cond (eqb (numberOf x) 0) (cond (eqb (getD (valuesOf x) 0 0) 0) No Yes) Refused
+
+told : (r : Forever) → r ≡ toldBy (Always.numbered r)
+unfolding Always.numbered
+told Refused = refl
+told Yes = refl
+told No = refl
 
 module _ (n : ℕ) (rows exits : List ℕ) where
-  pub forever-only : {r r′ : Forever} → r ≡ Always.foreverOf n rows exits → r′ ≡ Always.foreverOf n rows exits → r ≡ r′
-  forever-only p q = p ∙ sym q
+  pub forever-only : {r r′ : Forever} → Always.numbered r ≡ Always.answer n rows exits → Always.numbered r′ ≡ Always.answer n rows exits
+      → r ≡ r′
+  forever-only {r} {r′} p q = told r ∙ ap toldBy (p ∙ sym q) ∙ sym (told r′)
 
-  pub forever-answer : {r : Forever} → r ≡ Always.foreverOf n rows exits
-      → Always.numbered r ≡ first (Always.refusals n rows exits) (Always.verdict rows exits n)
-  unfolding Always.numbered first
-  forever-answer p = ap Always.numbered p ∙ go (wrongTable n rows exits) (every (Always.onward rows exits) n)
+  pub forever-answer : {r : Forever} → Always.numbered r ≡ Always.answer n rows exits
+      → r ≡ cond (validOf n rows exits) (cond (every (Always.onward rows exits) n) Yes No) Refused
+  unfolding first
+  forever-answer {r} p = told r ∙ ap toldBy p ∙ go (wrongTable n rows exits) (every (Always.onward rows exits) n)
     where
-      go : (t u : Bool)
-          → Always.numbered (cond (not t) (cond u Verdict.Yes Verdict.No) Verdict.Refused)
-          ≡ first (row t (numbers 10 (0 ∷ [])) ∷ []) (numbers 0 (cond u 1 0 ∷ []))
+      go : (t u : Bool) → toldBy (first (row t (numbers 10 (0 ∷ [])) ∷ []) (numbers 0 (cond u 1 0 ∷ []))) ≡ cond (not t) (cond u Yes No) Refused
       go true u = refl
       go false true = refl
       go false false = refl

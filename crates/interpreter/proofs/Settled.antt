@@ -1,6 +1,5 @@
 -- What the slices hold at the end is what the definition says of every cell. Assumes nothing.
 use mathlib.Core.Path.{_≡_, refl, sym, ap, ap₂, _∙_, subst}
-use mathlib.Core.Bool.{Bool}
 use mathlib.Core.List.{List, [], _∷_, _++_, map, map-append, reverse, reverse-cons}
 use Prim.Native.Nat.{ℕ, zero, suc, _+_, _-_, _<_, _≤_}
 use native.Mathlib.Omega.{arith}
@@ -12,17 +11,18 @@ use Rattle.stack.proofs.Cells.{stackOf-length}
 use Rattle.machine.specs.declared.Core.{Core}
 use Rattle.machine.specs.declared.Stop.{Stop}
 use Rattle.machine.specs.Output.{Emit, outsOf, Holds}
+use Rattle.machine.specs.Machine.{Given}
+use Rattle.machine.specs.Place.{Machine, End, start}
 use Rattle.machine.specs.Held.{Slices, slices, storeOf, Stands}
 use Rattle.machine.proofs.Only.{AsLong}
 use Rattle.machine.proofs.Emitting.{outs-length}
-use Rattle.interpreter.specs.Run.{Machine, End, runOf, start}
-use Rattle.interpreter.specs.Outcome.{cellsOf, kindsOf, valuesOf, slicesOf, placeOf, Outcome, jobOf, finished}
+use Rattle.interpreter.specs.Run.{runOf}
+use Rattle.interpreter.specs.Outcome.{cellsOf, kindsOf, valuesOf, slicesOf, placeOf, endedOf, jobOf, endOf}
 use Rattle.interpreter.specs.Placed.{machineOf, Reaches, Placed}
 use Rattle.interpreter.specs.declared.State.{State}
 use Rattle.interpreter.specs.declared.Ended.{Ended}
-use Rattle.interpreter.specs.declared.Ran.the-variants.{Finished}
 use Rattle.interpreter.proofs.Clearing.{Clean}
-use Rattle.interpreter.proofs.Running.{same-job}
+use Rattle.interpreter.proofs.RunLaws.{same-job}
 
 -- clean cells to the end
 module _ {A : Type 0} (z : A) (c : List A) (d : ℕ) where
@@ -85,29 +85,29 @@ state-is l at =
         pointers = at .core .pointers;
         depth = sym (stackOf-length (l .stack) (at .core .depth)) i;
         outputs = sym (outs-length (l .kinds) (l .values) (at .core .outputs)) i;
-        used = at .core .used;
-        awaiting = at .core .awaiting;
+        reading = at .core .reading;
       };
     }
 
--- the answer and the slices of a run that reached e
-answered : Stop → State → Slices → Outcome
-answered s at l = record { answer = Finished (record { stop = s; at = at }); slices = l }
-
+-- the numbers and the cells of a run that reached e
 pub settled : (n : ℕ) (e : End) (l l₀ : Slices) (r : Ended) → AsLong l l₀ → Reaches n e l r
-    → record { answer = Finished r; slices = l } ≡ finished l₀ e
-unfolding answered
-settled n e l l₀ r h q =
-    ap₂ (answered (r .stop)) (state-is l (r .at)) (slices-are l l₀ (r .at .core) h (q .placed .stands))
-    ∙ ap₂ (λ (s : Stop) (m : Machine). finished l₀ (record { stop = s; at = m })) (q .stop) (q .at)
+    → (r ≡ endedOf e) × (l ≡ slicesOf l₀ (e .at .store))
+settled n e l l₀ r h q = (
+  ap₂ ended (q .stop) (state-is l (r .at) ∙ ap placeOf (q .at)),
+  slices-are l l₀ (r .at .core) h (q .placed .stands) ∙ ap (λ (m : Machine). slicesOf l₀ (m .store)) (q .at),
+)
+  where
+    ended : Stop → State → Ended
+    ended s at = record { stop = s; at = at }
 
 -- slices that were cleared
-pub from-start : (n : ℕ) (rows exits : List ℕ) (mode : Bool) (input : List ℕ) (limit : ℕ) (m : Machine) (l l₀ l′ : Slices) (r : Ended)
-    → AsLong l l₀ → Reaches n (runOf (jobOf rows exits mode input l) (limit - 0) m) l′ r
-    → Reaches n (runOf (jobOf rows exits mode input l₀) limit m) l′ r
-from-start n rows exits mode input limit m l l₀ l′ r h q =
+pub from-start : (n : ℕ) (rows exits : List ℕ) (g : Given) (l l₀ l′ : Slices) (r : Ended)
+    → AsLong l l₀ → Reaches n (runOf (jobOf rows exits g l) (g .terms .limit - 0) start) l′ r
+    → Reaches n (endOf rows exits g l₀) l′ r
+from-start n rows exits g l l₀ l′ r h q =
+    let limit : ℕ = g .terms .limit in
     let e : limit - 0 ≡ limit = omega arith in
-    subst (λ (x : End). Reaches n x l′ r) (ap₂ (λ j k. runOf j k m) (same-job rows exits mode input {l = l} {l₀ = l₀} h) e) q
+    subst (λ (x : End). Reaches n x l′ r) (ap₂ (λ j k. runOf j k start) (same-job rows exits g {l = l} {l₀ = l₀} h) e) q
 
 pub placed-start : (n : ℕ) (stack : List ℤ) (kinds : List ℕ) (values : List ℤ) → 0 < n → Clean (pos 0) stack
     → Clean 0 kinds → Clean (pos 0) values → Placed n (slices stack kinds values) (placeOf start)

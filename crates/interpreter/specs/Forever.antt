@@ -4,23 +4,19 @@ use mathlib.Core.Bool.{Bool, not, cond, _||_}
 use mathlib.Core.List.{List, [], _∷_}
 use Prim.Native.Nat.{ℕ}
 use lib.Dec.{eqb}
-use lib.ListN.{getD}
-use Rattle.base.specs.Numbers.{Numbers, numbers, Row, row}
+use Rattle.base.specs.Numbers.{Numbers, numbers, Row, row, first}
 use Rattle.interpreter.specs.declared.Forever.{Forever}
 use Rattle.interpreter.specs.declared.Forever.the-variants.{Refused, Yes, No}
-use Rattle.interpreter.specs.Table.{markOf, every, wrongTable, validOf}
-use Rattle.table.specs.Layout.{exitCell}
+use Rattle.interpreter.specs.Table.{markOf, every, wrongTable}
+use Rattle.table.specs.Layout.{exitAt}
 
 -- all eight exits of a region are 0
 abbrev pub closed : List ℕ → ℕ → Bool
-closed exits region = every (λ s. eqb (getD exits (exitCell region s) 0) 0) 8
+closed exits region = every (λ s. eqb (exitAt exits region s) 0) 8
 
 -- a row that is no node, or has a non-zero exit
 abbrev pub onward : List ℕ → List ℕ → ℕ → Bool
 onward rows exits region = eqb (markOf rows region) 0 || not (closed exits region)
-
-abbrev pub foreverOf : ℕ → List ℕ → List ℕ → Forever
-foreverOf n rows exits = cond (validOf n rows exits) (cond (every (onward rows exits) n) Yes No) Refused
 
 -- the answer in document 01's numbers: 1 for yes, 0 for no
 unfoldable pub numbered : Forever → Numbers
@@ -28,9 +24,12 @@ numbered Refused = numbers 10 (0 ∷ [])
 numbered Yes = numbers 0 (1 ∷ [])
 numbered No = numbers 0 (0 ∷ [])
 
--- the refusals of the call, and its answer where none is given
+-- the refusals of the call, its answer where none is given, and what is answered
 abbrev pub refusals : ℕ → List ℕ → List ℕ → List Row
 refusals n rows exits = row (wrongTable n rows exits) (numbers 10 (0 ∷ [])) ∷ []
 
 abbrev pub verdict : List ℕ → List ℕ → ℕ → Numbers
 verdict rows exits n = numbers 0 (cond (every (onward rows exits) n) 1 0 ∷ [])
+
+abbrev pub answer : ℕ → List ℕ → List ℕ → Numbers
+answer n rows exits = first (refusals n rows exits) (verdict rows exits n)

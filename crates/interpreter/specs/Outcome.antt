@@ -1,20 +1,21 @@
--- What a call of a run answers and leaves in the slices slices (document 01, "The run"). Assumes nothing.
-use mathlib.Core.Bool.{Bool, cond}
+-- What a call of a run answers and leaves in the lent slices (document 01, "The run"). Assumes nothing.
+use mathlib.Core.Path.{_≡_}
 use mathlib.Core.List.{List, [], _∷_, _++_, map, reverse}
 use Prim.Native.Nat.{ℕ, _-_}
 use lib.ListN.{length, replicate}
 use lib.IntN.{ℤ, pos}
-use Rattle.base.specs.Numbers.{Numbers, numbers, Row, row}
+use Rattle.base.specs.Numbers.{Numbers, numbers, Row, row, first, unlessRefused}
 use Rattle.machine.specs.declared.Core.{Core}
 use Rattle.machine.specs.Output.{Emit}
-use Rattle.machine.specs.Machine.{Store, statusOf}
-use Rattle.machine.specs.Held.{Slices, slices, stackRoom, outRoom}
+use Rattle.machine.specs.Machine.{Given, Store, statusOf}
+use Rattle.machine.specs.Place.{Machine, End}
+use Rattle.machine.specs.Held.{Slices, slices, roomOf}
 use Rattle.interpreter.specs.declared.State.{State}
 use Rattle.interpreter.specs.declared.Ended.{Ended}
 use Rattle.interpreter.specs.declared.Ran.{Ran}
 use Rattle.interpreter.specs.declared.Ran.the-variants.{Refused, Finished}
-use Rattle.interpreter.specs.Table.{wrongTable, validOf}
-use Rattle.interpreter.specs.Run.{Job, Machine, End, runOf, start}
+use Rattle.interpreter.specs.Table.{wrongTable}
+use Rattle.interpreter.specs.Run.{Job, ran}
 
 -- the cells of a slice: "Stack cell 0 is the bottom", outputs are in order, and "all cells past the depth or the output
 -- count, in each slice to its end, hold 0 on return"
@@ -32,7 +33,7 @@ slicesOf l s = slices (cellsOf (length (l .stack)) (s .stack)) (kindsOf (length 
 
 -- a store and a place, by numbers
 abbrev pub coreOf : Store → Core
-coreOf s = record { pointers = s .pointers; depth = length (s .stack); outputs = length (s .outs); used = s .used; awaiting = s .awaiting }
+coreOf s = record { pointers = s .pointers; depth = length (s .stack); outputs = length (s .outs); reading = s .reading }
 
 abbrev pub placeOf : Machine → State
 placeOf m = record { region = m .region; steps = m .steps; core = coreOf (m .store) }
@@ -40,43 +41,44 @@ placeOf m = record { region = m .region; steps = m .steps; core = coreOf (m .sto
 abbrev pub endedOf : End → Ended
 endedOf e = record { stop = e .stop; at = placeOf (e .at) }
 
--- the answer, and the three slices slices after the call
-pub record Outcome : Type 0 where
-  pub answer : Ran
-  pub slices : Slices
-
-abbrev pub outcome : Ran → List ℤ → List ℕ → List ℤ → Outcome
-outcome r stack kinds values = record { answer = r; slices = slices stack kinds values }
-
-abbrev pub jobOf : List ℕ → List ℕ → Bool → List ℕ → Slices → Job
-jobOf rows exits mode input l = record { rows = rows; exits = exits; mode = mode; input = input; stackRoom = stackRoom l; outRoom = outRoom l }
-
-abbrev pub finished : Slices → End → Outcome
-finished l e = record { answer = Finished (endedOf e); slices = slicesOf l (e .at .store) }
-
--- a run from the start; where the table is refused, "no slices byte changes"
-abbrev pub outcomeOf : ℕ → List ℕ → List ℕ → ℕ → Bool → List ℕ → Slices → Outcome
-outcomeOf n rows exits limit mode input l =
-    cond (validOf n rows exits) (finished l (runOf (jobOf rows exits mode input l) limit start))
-    (record { answer = Refused; slices = l })
-
 -- "The result: status, steps, region, dp, cc, depth, outputs, input bytes used"
 abbrev pub resultOf : Ended → List ℕ
 resultOf e =
     statusOf (e .stop) ∷ e .at .steps ∷ e .at .region ∷ e .at .core .pointers .dp ∷ e .at .core .pointers .cc ∷ e .at .core .depth
     ∷ e .at .core .outputs
-    ∷ e .at .core .used
+    ∷ e .at .core .reading .used
     ∷ []
 
 -- "A refusal returns its number, .. zeros elsewhere"
-abbrev pub refused : Numbers
-refused = numbers 10 (0 ∷ 0 ∷ 0 ∷ 0 ∷ 0 ∷ 0 ∷ 0 ∷ 0 ∷ [])
+abbrev pub refused : ℕ → Numbers
+refused number = numbers number (0 ∷ 0 ∷ 0 ∷ 0 ∷ 0 ∷ 0 ∷ 0 ∷ 0 ∷ [])
 
 -- the answer in document 01's numbers
 unfoldable pub numbered : Ran → Numbers
-numbered Refused = refused
+numbered (Refused number) = refused number
 numbered (Finished e) = numbers 0 (resultOf e)
 
 -- the refusals of the call: "10 Table"
 abbrev pub refusals : ℕ → List ℕ → List ℕ → List Row
-refusals n rows exits = row (wrongTable n rows exits) refused ∷ []
+refusals n rows exits = row (wrongTable n rows exits) (refused 10) ∷ []
+
+abbrev pub jobOf : List ℕ → List ℕ → Given → Slices → Job
+jobOf rows exits g l = record { rows = rows; exits = exits; given = g; room = roomOf l }
+
+-- where the run ends that is called with these
+abbrev pub endOf : List ℕ → List ℕ → Given → Slices → End
+endOf rows exits g l = ran (jobOf rows exits g l)
+
+-- what is answered; and what the lent slices hold then: "no lent byte changes" where the call is refused
+abbrev pub answer : ℕ → List ℕ → List ℕ → Given → Slices → Numbers
+answer n rows exits g l = first (refusals n rows exits) (numbers 0 (resultOf (endedOf (endOf rows exits g l))))
+
+abbrev pub leftOf : ℕ → List ℕ → List ℕ → Given → Slices → Slices
+leftOf n rows exits g l = unlessRefused (answer n rows exits g l) (slicesOf l (endOf rows exits g l .at .store)) l
+
+-- what a call answers and leaves. The eight numbers do not tell whether input is awaited, so the place where a finished
+-- run ended is settled besides.
+pub record Outcome (n : ℕ) (rows exits : List ℕ) (g : Given) (l : Slices) (r : Ran) (l′ : Slices) : Type 0 where
+  pub answers : numbered r ≡ answer n rows exits g l
+  pub ends : (e : Ended) → r ≡ Finished e → e ≡ endedOf (endOf rows exits g l)
+  pub leaves : l′ ≡ leftOf n rows exits g l

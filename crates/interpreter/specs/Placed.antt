@@ -1,18 +1,19 @@
 -- What the code holds of a run on its way, and what its parts promise. Assumes nothing.
 use mathlib.Core.Path.{_≡_}
-use mathlib.Core.Bool.{Bool}
 use mathlib.Core.List.{List}
 use Prim.Native.Nat.{ℕ, _+_, _-_, _<_}
+use Rattle.machine.specs.Machine.{Given}
+use Rattle.machine.specs.Place.{Machine, End}
 use Rattle.machine.specs.Held.{Slices, storeOf, Stands}
 use Rattle.interpreter.specs.declared.State.{State}
 use Rattle.interpreter.specs.declared.Ended.{Ended}
 use Rattle.interpreter.specs.declared.Ran.{Ran}
 use Rattle.interpreter.specs.declared.Ran.the-variants.{Refused, Finished}
-use Rattle.interpreter.specs.declared.Moved.{Moved}
-use Rattle.interpreter.specs.declared.Moved.the-variants.{To, Halted}
+use Rattle.interpreter.specs.declared.stepping.Moved.{Moved}
+use Rattle.interpreter.specs.declared.stepping.Moved.the-variants.{To, Halted}
 use Rattle.interpreter.specs.Table.{Good}
-use Rattle.interpreter.specs.Run.{Machine, Went, goes, halts, End, through, stepOf, runOf, start}
-use Rattle.interpreter.specs.Outcome.{jobOf}
+use Rattle.interpreter.specs.Run.{Went, goes, halts, through, stepOf, runOf}
+use Rattle.interpreter.specs.Outcome.{jobOf, endOf}
 
 abbrev pub machineOf : Slices → State → Machine
 machineOf l at = record { region = at .region; steps = at .steps; store = storeOf l (at .core) }
@@ -44,19 +45,20 @@ pub record Reaches (n : ℕ) (e : End) (l : Slices) (r : Ended) : Type 0 where
   pub at : machineOf l (r .at) ≡ e .at
 
 -- the promises of `go_through`, `step`, `resume` and `run_valid`
-abbrev pub Gone : ℕ → List ℕ → List ℕ → Bool → List ℕ → ℕ → Slices → State → Slices → Moved → Type 0
-Gone n rows exits mode input w l at l′ r = Steps (through (jobOf rows exits mode input l) w (machineOf l at)) n l at l′ r
+abbrev pub Gone : ℕ → List ℕ → List ℕ → Given → ℕ → Slices → State → Slices → Moved → Type 0
+Gone n rows exits g w l at l′ r = Steps (through (jobOf rows exits g l) w (machineOf l at)) n l at l′ r
 
-abbrev pub Stepped : ℕ → List ℕ → List ℕ → Bool → List ℕ → Slices → State → Slices → Moved → Type 0
-Stepped n rows exits mode input l at l′ r = Steps (stepOf (jobOf rows exits mode input l) (machineOf l at)) n l at l′ r
+abbrev pub Stepped : ℕ → List ℕ → List ℕ → Given → Slices → State → Slices → Moved → Type 0
+Stepped n rows exits g l at l′ r = Steps (stepOf (jobOf rows exits g l) (machineOf l at)) n l at l′ r
 
-abbrev pub Resumed : ℕ → List ℕ → List ℕ → ℕ → Bool → List ℕ → Slices → State → Slices → Ended → Type 0
-Resumed n rows exits limit mode input l from l′ r = Reaches n (runOf (jobOf rows exits mode input l) (limit - from .steps) (machineOf l from)) l′ r
+abbrev pub Resumed : ℕ → List ℕ → List ℕ → Given → Slices → State → Slices → Ended → Type 0
+Resumed n rows exits g l from l′ r =
+    Reaches n (runOf (jobOf rows exits g l) (g .terms .limit - from .steps) (machineOf l from)) l′ r
 
-abbrev pub Started : ℕ → List ℕ → List ℕ → ℕ → Bool → List ℕ → Slices → Slices → Ended → Type 0
-Started n rows exits limit mode input l l′ r = Reaches n (runOf (jobOf rows exits mode input l) limit start) l′ r
+abbrev pub Started : ℕ → List ℕ → List ℕ → Given → Slices → Slices → Ended → Type 0
+Started n rows exits g l l′ r = Reaches n (endOf rows exits g l) l′ r
 
--- where a run ended it may be taken up again: what `resume` asks for holds there
-abbrev pub Resumable : ℕ → List ℕ → List ℕ → Ran → Slices → Type 0
-Resumable n rows exits Refused l = Unit {0}
-Resumable n rows exits (Finished e) l = Good n rows exits × Placed n l (e .at)
+-- where a run ended it may be taken up again: what `resume` asks for holds there, and it stands where the run ended
+abbrev pub Resumable : ℕ → List ℕ → List ℕ → Given → Slices → Ran → Slices → Type 0
+Resumable n rows exits g l (Refused number) l′ = Unit {0}
+Resumable n rows exits g l (Finished e) l′ = Good n rows exits × Started n rows exits g l l′ e

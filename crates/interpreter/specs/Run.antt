@@ -1,37 +1,22 @@
--- One step, and steps until a stop (document 01, "The run"). A run recurses on what is left of the limit. Assumes nothing.
-use mathlib.Core.Bool.{Bool, false, cond}
-use mathlib.Core.List.{List, []}
+-- One step over a table, and steps until a stop (document 01, "The run"). A run recurses on what is left of the limit.
+-- Assumes nothing.
+use mathlib.Core.Bool.{cond}
+use mathlib.Core.List.{List}
 use Prim.Native.Nat.{ℕ, zero, suc, _+_}
 use lib.Dec.{eqb}
-use Rattle.flow.specs.Pointer.{startState}
 use Rattle.machine.specs.declared.Stop.{Stop}
 use Rattle.machine.specs.declared.Stop.the-variants.{Completed, MaxSteps, NeedsInput}
-use Rattle.machine.specs.Machine.{Store, Effect, Out, keeps, stops, exec, fitting, withPointers}
+use Rattle.machine.specs.Machine.{Given, RunRoom, Effect, Out, keeps, stops, exec, fitting, withPointers}
+use Rattle.machine.specs.Place.{Machine, start, End}
 use Rattle.interpreter.specs.Table.{pointersOf, opOf, sizeOf, exitOf}
 use Rattle.table.specs.ExitNumber.{targetOf}
 
--- what a run is given: the table, the mode, the input, and the room of the stack and of the outputs
+-- a run: the table, what is given besides, and the room of the stack and of the outputs
 pub record Job : Type 0 where
   pub rows : List ℕ
   pub exits : List ℕ
-  pub mode : Bool
-  pub input : List ℕ
-  pub stackRoom : ℕ
-  pub outRoom : ℕ
-
--- where it stands: the store has the pointers, the stack, the outputs, the bytes used, and whether input is awaited
-pub record Machine : Type 0 where
-  pub region : ℕ
-  pub steps : ℕ
-  pub store : Store
-
--- "a run starts with dp right, cc left, an empty stack and 0 steps", at region 0
-abbrev pub start : Machine
-start = record {
-  region = 0;
-  steps = 0;
-  store = record { pointers = startState; stack = []; outs = []; used = 0; awaiting = false };
-}
+  pub given : Given
+  pub room : RunRoom
 
 -- what a step comes to
 pub data Went : Type 0 where
@@ -44,12 +29,16 @@ arrive w m (keeps s) = goes (record { region = targetOf w; steps = m .steps + 1;
 arrive w m (stops s) = halts s
 
 module _ (j : Job) where
+  -- the exit taken from where a run stands; 0 where there is none
+  abbrev pub exitFrom : Machine → ℕ
+  exitFrom m = exitOf (j .exits) (m .region) (m .store .pointers)
+
   -- "the step: move, set the pointers, execute with the size of the block just left", by the exit w
   abbrev pub effectOf : ℕ → Machine → Effect
-  effectOf w m = exec (j .mode) (j .input) (sizeOf (j .rows) (m .region)) (opOf w) (withPointers (pointersOf w) (m .store))
+  effectOf w m = exec (j .given) (sizeOf (j .rows) (m .region)) (opOf w) (withPointers (pointersOf w) (m .store))
 
   abbrev pub through : ℕ → Machine → Went
-  through w m = arrive w m (fitting (j .stackRoom) (j .outRoom) (effectOf w m))
+  through w m = arrive w m (fitting (j .room) (effectOf w m))
 
   -- "no open attempt, 1 Completed. Then the step"
   abbrev pub leave : ℕ → Machine → Went
@@ -57,12 +46,7 @@ module _ (j : Job) where
 
   -- "in abstract mode after an input instruction, 3 NeedsInput"
   abbrev pub stepOf : Machine → Went
-  stepOf m = cond (m .store .awaiting) (halts NeedsInput) (leave (exitOf (j .exits) (m .region) (m .store .pointers)) m)
-
--- where a run ends: why, and where it stands, which is as before a step that isn't taken
-pub record End : Type 0 where
-  pub stop : Stop
-  pub at : Machine
+  stepOf m = cond (m .store .reading .awaiting) (halts NeedsInput) (leave (exitFrom m) m)
 
 unfoldable pub after : (Machine → End) → Machine → Went → End
 after more m (goes m′) = more m′
@@ -72,3 +56,7 @@ after more m (halts s) = record { stop = s; at = m }
 unfoldable pub runOf : Job → ℕ → Machine → End
 runOf j zero m = record { stop = MaxSteps; at = m }
 runOf j (suc left) m = after (runOf j left) m (stepOf j m)
+
+-- the run from the start to its limit
+abbrev pub ran : Job → End
+ran j = runOf j (j .given .terms .limit) start

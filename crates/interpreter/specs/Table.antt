@@ -1,15 +1,15 @@
--- The slices table as a run reads it: refusal 10, a region's size, and the exit taken (document 01, "The run" and "Regions and
+-- The lent table as a run reads it: refusal 10, a region's size, and the exit taken (document 01, "The run" and "Regions and
 -- exits"). Where rows and exits stand, and what an exit number says, is the crate table's. Assumes nothing.
 use mathlib.Core.Bool.{Bool, true, false, cond, not, _&&_, _||_}
 use mathlib.Core.List.{List}
 use Prim.Native.Nat.{ℕ, zero, suc, _<_, _≤_}
 use lib.Dec.{eqb, leb, ltb}
-use lib.ListN.{length, getD}
+use lib.ListN.{length}
 use Rattle.flow.specs.declared.PointerState.{PointerState}
 use Rattle.flow.specs.Pointer.{stateNumber, ofNumber, attemptOf}
 use Rattle.machine.specs.declared.Op.{Op}
 use Rattle.machine.specs.Machine.{numbered}
-use Rattle.table.specs.Layout.{rowCell, sizeField, markField, exitCell, rowsRoom, exitsRoom}
+use Rattle.table.specs.Layout.{sizeField, markField, fieldAt, exitAt, rowsRoom, exitsRoom}
 use Rattle.table.specs.ExitNumber.{targetOf, stateOf, instructionOf, largestExit}
 
 -- the pointers and the instruction of an exit
@@ -21,14 +21,14 @@ opOf w = numbered (instructionOf w)
 
 -- a region's size, and its node mark
 abbrev pub sizeOf : List ℕ → ℕ → ℕ
-sizeOf rows region = getD rows (rowCell region sizeField) 0
+sizeOf rows region = fieldAt rows region sizeField
 
 abbrev pub markOf : List ℕ → ℕ → ℕ
-markOf rows region = getD rows (rowCell region markField) 0
+markOf rows region = fieldAt rows region markField
 
 -- the exit of a region in the state tried k-th
 abbrev pub tried : List ℕ → ℕ → PointerState → ℕ → ℕ
-tried exits region p k = getD exits (exitCell region (stateNumber (attemptOf p k))) 0
+tried exits region p k = exitAt exits region (stateNumber (attemptOf p k))
 
 -- the first open one of j attempts from the k-th on, or 0
 unfoldable pub openFrom : List ℕ → ℕ → PointerState → ℕ → ℕ → ℕ
@@ -64,10 +64,13 @@ wrongMark rows region = ltb 1 (markOf rows region)
 abbrev pub wrongExit : ℕ → ℕ → Bool
 wrongExit n w = ltb largestExit w || leb n (targetOf w)
 
+abbrev pub wrongExits : ℕ → List ℕ → ℕ → Bool
+wrongExits n exits region = any (λ s. wrongExit n (exitAt exits region s)) 8
+
 abbrev pub wrongTable : ℕ → List ℕ → List ℕ → Bool
 wrongTable n rows exits =
     wrongCount n
-    || (tooShort n rows exits || (any (wrongMark rows) n || any (λ i. wrongExit n (getD exits i 0)) (exitsRoom n)))
+    || (tooShort n rows exits || (any (wrongMark rows) n || any (wrongExits n exits) n))
 
 abbrev pub validOf : ℕ → List ℕ → List ℕ → Bool
 validOf n rows exits = not (wrongTable n rows exits)
@@ -78,4 +81,4 @@ pub record Good (n : ℕ) (rows exits : List ℕ) : Type 0 where
   pub few : n ≤ 65536
   pub rows-fit : rowsRoom n ≤ length rows
   pub exits-fit : exitsRoom n ≤ length exits
-  pub leads : (i : ℕ) → i < exitsRoom n → targetOf (getD exits i 0) < n
+  pub leads : (r s : ℕ) → r < n → s < 8 → targetOf (exitAt exits r s) < n

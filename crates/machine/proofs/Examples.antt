@@ -1,14 +1,11 @@
--- The definitions at document 01's P lines and at `test_roll`'s numbers; stacks are written top first. `negsuc n` is
--- -(n + 1). Assumes nothing.
+-- The definitions at document 01's corners and at `test_roll`'s numbers (two of which are P lines: p_lines' specs/Table.antt);
+-- stacks are written top first. `negsuc n` is -(n + 1). Assumes nothing.
 use mathlib.Core.Path.{_≡_, refl}
 use mathlib.Core.List.{[], _∷_}
 use lib.IntN.{pos, negsuc}
 use Rattle.word.specs.Word.{residue, signed64, wrap, isZero, quotient, remainder}
-use Rattle.text.specs.Range.{within}
-use Rattle.text.specs.Utf8.{scalar}
 use Rattle.stack.specs.declared.Pairing.the-variants.{Add, Sub, Div, Mod, Gt}
 use Rattle.stack.specs.Instr.{binary, combined, pair, not, turn, places, rolled, roll}
-use Rattle.machine.specs.Output.{char, charOut}
 
 -- "Top a, second b": 5 - 2, 5 > 2; "Div or Mod by 0, Mod by -2^63 ..: both values are gone"
 pub pairs : (pair Sub (pos 2 ∷ pos 5 ∷ []) ≡ pos 3 ∷ [])
@@ -18,12 +15,6 @@ pub pairs : (pair Sub (pos 2 ∷ pos 5 ∷ []) ≡ pos 3 ∷ [])
     × (pair Add (pos 2 ∷ []) ≡ pos 2 ∷ [])
 unfolding residue signed64 wrap isZero quotient remainder combined binary
 pairs = (refl, refl, refl, refl, refl)
-
--- "Roll, top first: 1,2,6,5 gives 5,6; -1,3,6,5,4 gives 4,6,5"
-pub p-roll : (roll (pos 1 ∷ pos 2 ∷ pos 6 ∷ pos 5 ∷ []) ≡ pos 5 ∷ pos 6 ∷ [])
-    × (roll (negsuc 0 ∷ pos 3 ∷ pos 6 ∷ pos 5 ∷ pos 4 ∷ []) ≡ pos 4 ∷ pos 6 ∷ pos 5 ∷ [])
-unfolding residue turn places rolled roll
-p-roll = (refl, refl)
 
 -- the other numbers of `test_roll`
 pub test-roll : (roll (negsuc 0 ∷ pos 2 ∷ pos 6 ∷ pos 5 ∷ pos 4 ∷ []) ≡ pos 5 ∷ pos 6 ∷ pos 4 ∷ [])
@@ -46,8 +37,3 @@ roll-corners = (refl, refl, refl, refl, refl, refl)
 pub nots : (not (pos 0 ∷ []) ≡ pos 1 ∷ []) × (not (negsuc 0 ∷ []) ≡ pos 0 ∷ []) × (not [] ≡ [])
 unfolding isZero not
 nots = (refl, refl, refl)
-
--- "CharOut 4,294,967,361 emits 65; 55,296 emits nothing"
-pub p-char-out : (charOut (pos 4294967361) ≡ record { kind = 1; value = pos 65 } ∷ []) × (charOut (pos 55296) ≡ [])
-unfolding residue within scalar char
-p-char-out = (refl, refl)

@@ -25,14 +25,20 @@ use Rattle.machine.specs.declared.Stop.the-variants.{BadInput}
 use Rattle.machine.specs.declared.output.Wrote.{Wrote}
 use Rattle.machine.specs.declared.output.Wrote.the-variants as Write
 use Rattle.machine.specs.Output.{Emit, outsOf, ofTop, Puts}
-use Rattle.machine.specs.Machine.{Store, Effect, does, keeps, withStack, withPointers, withOuts, withUsed, onStack, byTop, turn, write, take, read, fitting}
-use Rattle.machine.specs.Held.{slices, storeOf, Stands, outOf, After, Execs, StackExecs, atDepth, atOutputs, atUsed, atPointers, atWait, grownOf, wroteOf}
+use Rattle.machine.specs.Machine.{Given, RunRoom, Store, Effect, does, keeps, withStack, withPointers, withOuts, withUsed, onStack, byTop, turn, write, take, read, fitting}
+use Rattle.machine.specs.Held.{slices, roomOf, storeOf, Stands, outOf, After, Execs, StackExecs, atDepth, atOutputs, atUsed, atPointers, atWait, grownOf, wroteOf}
 use Rattle.machine.proofs.Emitting.{outs-length}
 
 -- a store that fits is kept
-pub fits : (a b : ℕ) (m : Store) → length (m .stack) ≤ a → length (m .outs) ≤ b → fitting a b (does m) ≡ keeps m
+pub fits : (room : RunRoom) (m : Store) → length (m .stack) ≤ room .stack → length (m .outs) ≤ room .outs → fitting room (does m) ≡ keeps m
 unfolding fitting
-fits a b m p q = rw (le-ltb a (length (m .stack)) p, le-ltb b (length (m .outs)) q) refl
+fits room m p q = rw (le-ltb (room .stack) (length (m .stack)) p, le-ltb (room .outs) (length (m .outs)) q) refl
+
+-- the top, where there is one
+by-top : (f : PointerState → ℤ → PointerState) (p : PointerState) (c : List ℤ) (d : ℕ) → 0 < d
+    → f p (getD c (d - 1) (pos 0)) ≡ byTop f (stackOf c d) p
+unfolding byTop
+by-top f p c d h = rw (one c d h) refl
 
 module _ (stack : List ℤ) (kinds : List ℕ) (values : List ℤ) (at : Core) where
   -- a step that is kept
@@ -45,8 +51,8 @@ module _ (stack : List ℤ) (kinds : List ℕ) (values : List ℤ) (at : Core) w
   kept e stack′ kinds′ values′ at′ s p q r h = record {
     is =
         sym
-        (ap (fitting (length stack) (min (length kinds) (length values))) h
-        ∙ fits (length stack) (min (length kinds) (length values)) (storeOf (slices stack′ kinds′ values′) at′)
+        (ap (fitting (roomOf (slices stack kinds values))) h
+        ∙ fits (roomOf (slices stack kinds values)) (storeOf (slices stack′ kinds′ values′) at′)
         (omega (arith, stackOf-length stack′ (at′ .depth), s .lies .room))
         (omega (arith, outs-length kinds′ values′ (at′ .outputs), s .holds .kinds-room, s .holds .values-room)));
     leaves = s;
@@ -76,17 +82,17 @@ module _ (stack : List ℤ) (kinds : List ℕ) (values : List ℤ) (at : Core) w
       leaves = ap (λ (t : List ℤ). slices t kinds values) (q .same);
     }
 
-    -- the pointers turn by the top, which goes
-    pub turned : (f : PointerState → ℤ → PointerState) (stack′ : List ℤ) (d′ : ℕ) (p′ : PointerState)
-        → Does Instr.pop stack (at .depth) stack′ d′ → length stack′ ≡ length stack
-        → p′ ≡ byTop f (stackOf stack (at .depth)) (at .pointers) → Valid p′
+    -- Ptr and Swi: the pointers turn by the top, which goes
+    pub turned : (f : PointerState → ℤ → PointerState) → ((p : PointerState) (z : ℤ) → Valid p → Valid (f p z))
+        → (stack′ : List ℤ) (d′ : ℕ) (p′ : PointerState) → Does Instr.pop stack (at .depth) stack′ d′
+        → length stack′ ≡ length stack → 0 < at .depth → p′ ≡ f (at .pointers) (getD stack (at .depth - 1) (pos 0))
         → Execs (turn f) (slices stack kinds values) at (slices stack′ kinds values) (Kept (atPointers p′ (atDepth d′ at)))
     unfolding turn
-    turned f stack′ d′ p′ q n e v =
+    turned f stays stack′ d′ p′ q n some e =
         kept (turn f) stack′ kinds values (atPointers p′ (atDepth d′ at))
-        (record { lies = q .lies; holds = s .holds; valid = v }) n refl refl
+        (record { lies = q .lies; holds = s .holds; valid = rw e (stays (at .pointers) _ (s .valid)) }) n refl refl
         (ap₂ (λ (t : List ℤ) (p : PointerState). does (withStack t (withPointers p (storeOf (slices stack kinds values) at))))
-        (sym (q .is)) (sym e))
+        (sym (q .is)) (sym (e ∙ by-top f (at .pointers) stack (at .depth) some)))
 
     pub unturned : (f : PointerState → ℤ → PointerState) → at .depth ≡ 0
         → Execs (turn f) (slices stack kinds values) at (slices stack kinds values) (Kept at)
@@ -145,30 +151,24 @@ module _ (stack : List ℤ) (kinds : List ℕ) (values : List ℤ) (at : Core) w
     unfolding fitting outOf take After
     bad = record { is = refl; leaves = refl }
 
-    pub waits : (f : List ℕ → Number) (input : List ℕ)
-        → Execs (read true f input) (slices stack kinds values) at (slices stack kinds values) (Kept (atWait at))
+    pub waits : (f : List ℕ → Number) (g : Given) → g .terms .«abstract_mode» ≡ true
+        → Execs (read g f) (slices stack kinds values) at (slices stack kinds values) (Kept (atWait at))
     unfolding read
-    waits f input =
-        kept (read true f input) stack kinds values (atWait at) (record { lies = s .lies; holds = s .holds; valid = s .valid })
-        refl refl refl refl
+    waits f g e =
+        kept (read g f) stack kinds values (atWait at) (record { lies = s .lies; holds = s .holds; valid = s .valid })
+        refl refl refl (rw e refl)
 
 -- what the text gives is what is taken
-pub reads : (f : List ℕ → Number) (input : List ℕ) (t : Taken) (stack stack′ : List ℤ) (at : Core) (r : Done)
-    → t ≡ takeOf f input (at .used) → StackExecs (take t) stack at stack′ r
-    → StackExecs (read false f input) stack at stack′ r
+pub reads : (f : List ℕ → Number) (g : Given) (t : Taken) (stack stack′ : List ℤ) (at : Core) (r : Done)
+    → g .terms .«abstract_mode» ≡ false → t ≡ takeOf f (g .input) (at .reading .used) → StackExecs (take t) stack at stack′ r
+    → StackExecs (read g f) stack at stack′ r
 unfolding read
-reads f input t stack stack′ at r e x kinds values h =
+reads f g t stack stack′ at r unmet e x kinds values h =
     let y = x kinds values h in
     record {
       is =
           y .is
-          ∙ ap (λ (u : Taken). fitting (length stack) (min (length kinds) (length values)) (take u (storeOf (slices stack kinds values) at)))
-          e;
+          ∙ ap (λ (u : Taken). fitting (roomOf (slices stack kinds values)) (take u (storeOf (slices stack kinds values) at))) e
+          ∙ rw unmet refl;
       leaves = y .leaves;
     }
-
--- the top, where there is one
-pub by-top : (f : PointerState → ℤ → PointerState) (p : PointerState) (c : List ℤ) (d : ℕ) → 0 < d
-    → f p (getD c (d - 1) (pos 0)) ≡ byTop f (stackOf c d) p
-unfolding byTop
-by-top f p c d h = rw (one c d h) refl

@@ -1,6 +1,7 @@
 -- Laws that belong to no one function, and that the layers above cite.
 pub mod Emitting
 pub mod Executing
+pub mod Fitting
 pub mod Unique
 pub mod Only
 pub mod Examples

@@ -2,7 +2,7 @@
 --     exec                     execs-only
 --     int_out, char_out        puts-only
 --     numbered, at_pointers    `equation-only` of base's proofs/Only.antt
--- A call leaves the length of a slices slice as it is. Assumes nothing.
+-- A call leaves the length of a lent slice as it is. Assumes nothing.
 use mathlib.Core.Path.{_≡_, _∙_, sym, ap, ap₂, refl}
 use mathlib.Core.List.{List, [], _∷_, _++_}
 use Prim.Native.Nat.{ℕ}
@@ -42,8 +42,7 @@ same-held l l′ at at′ n s s′ e =
         pointers = e i .pointers;
         depth = u .0 i;
         outputs = o .0 i;
-        used = e i .used;
-        awaiting = e i .awaiting;
+        reading = e i .reading;
       },
       λ i. slices (u .1 i) (o .1 i) (o .2 i),
     )

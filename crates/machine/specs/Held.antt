@@ -1,6 +1,5 @@
--- What the code holds of a store: numbers in a `Core`, the stack and the outputs in three slices slices. Assumes nothing.
+-- What the code holds of a store: numbers in a `Core`, the stack and the outputs in three lent slices. Assumes nothing.
 use mathlib.Core.Path.{_≡_}
-use mathlib.Core.Bool.{true}
 use mathlib.Core.List.{List}
 use Prim.Native.Nat.{ℕ, min}
 use lib.ListN.{length}
@@ -11,15 +10,16 @@ use Rattle.stack.specs.declared.Grown.{Grown}
 use Rattle.stack.specs.declared.Grown.the-variants as Grow
 use Rattle.stack.specs.Stack.{stackOf, Lies}
 use Rattle.machine.specs.declared.Core.{Core}
+use Rattle.machine.specs.declared.Reading.{Reading}
 use Rattle.machine.specs.declared.Done.{Done}
 use Rattle.machine.specs.declared.Done.the-variants.{Kept, Stops}
 use Rattle.machine.specs.declared.Stop.the-variants.{StackFull, OutputFull}
 use Rattle.machine.specs.declared.output.Wrote.{Wrote}
 use Rattle.machine.specs.declared.output.Wrote.the-variants as Write
 use Rattle.machine.specs.Output.{outsOf, Holds}
-use Rattle.machine.specs.Machine.{Store, Effect, Out, keeps, stops, fitting}
+use Rattle.machine.specs.Machine.{RunRoom, usedTo, waitsFor, Store, Effect, Out, keeps, stops, fitting}
 
--- the three slices slices
+-- the three lent slices
 pub record Slices : Type 0 where
   pub stack : List ℤ
   pub kinds : List ℕ
@@ -28,12 +28,9 @@ pub record Slices : Type 0 where
 abbrev pub slices : List ℤ → List ℕ → List ℤ → Slices
 slices stack kinds values = record { stack = stack; kinds = kinds; values = values }
 
-abbrev pub stackRoom : Slices → ℕ
-stackRoom l = length (l .stack)
-
--- "room is the shorter of the two slices"
-abbrev pub outRoom : Slices → ℕ
-outRoom l = min (length (l .kinds)) (length (l .values))
+-- their room; of the outputs, "room is the shorter of the two slices"
+abbrev pub roomOf : Slices → RunRoom
+roomOf l = record { stack = length (l .stack); outs = min (length (l .kinds)) (length (l .values)) }
 
 -- the store that is held
 abbrev pub storeOf : Slices → Core → Store
@@ -41,8 +38,7 @@ storeOf l at = record {
   pointers = at .pointers;
   stack = stackOf (l .stack) (at .depth);
   outs = outsOf (l .kinds) (l .values) (at .outputs);
-  used = at .used;
-  awaiting = at .awaiting;
+  reading = at .reading;
 }
 
 -- "All cells past the depth or the output count, in each slice to its end, hold 0", and the pointers are a state
@@ -63,7 +59,7 @@ After l l′ (Stops s) = l′ ≡ l
 
 -- the slices and the answer after e is done to what is held
 pub record Execs (e : Store → Effect) (l : Slices) (at : Core) (l′ : Slices) (r : Done) : Type 0 where
-  pub is : outOf l′ r ≡ fitting (stackRoom l) (outRoom l) (e (storeOf l at))
+  pub is : outOf l′ r ≡ fitting (roomOf l) (e (storeOf l at))
   pub leaves : After l l′ r
 
 -- the same of a function that sees the stack alone, whatever the outputs are
@@ -73,19 +69,22 @@ StackExecs e stack at stack′ r =
     → Execs e (slices stack kinds values) at (slices stack′ kinds values) r
 
 abbrev pub atDepth : ℕ → Core → Core
-atDepth d at = record { pointers = at .pointers; depth = d; outputs = at .outputs; used = at .used; awaiting = at .awaiting }
+atDepth d at = record { pointers = at .pointers; depth = d; outputs = at .outputs; reading = at .reading }
 
 abbrev pub atOutputs : ℕ → Core → Core
-atOutputs n at = record { pointers = at .pointers; depth = at .depth; outputs = n; used = at .used; awaiting = at .awaiting }
-
-abbrev pub atUsed : ℕ → Core → Core
-atUsed n at = record { pointers = at .pointers; depth = at .depth; outputs = at .outputs; used = n; awaiting = at .awaiting }
+atOutputs n at = record { pointers = at .pointers; depth = at .depth; outputs = n; reading = at .reading }
 
 abbrev pub atPointers : PointerState → Core → Core
-atPointers p at = record { pointers = p; depth = at .depth; outputs = at .outputs; used = at .used; awaiting = at .awaiting }
+atPointers p at = record { pointers = p; depth = at .depth; outputs = at .outputs; reading = at .reading }
+
+abbrev pub atReading : Reading → Core → Core
+atReading r at = record { pointers = at .pointers; depth = at .depth; outputs = at .outputs; reading = r }
+
+abbrev pub atUsed : ℕ → Core → Core
+atUsed n at = atReading (usedTo n (at .reading)) at
 
 abbrev pub atWait : Core → Core
-atWait at = record { pointers = at .pointers; depth = at .depth; outputs = at .outputs; used = at .used; awaiting = true }
+atWait at = atReading (waitsFor (at .reading)) at
 
 -- the answer of an instruction that may need a cell more, and of one that may emit
 unfoldable pub grownOf : Core → Grown → Done

@@ -1,5 +1,5 @@
 -- What an instruction works on, and what each of the seventeen does to it (document 01, "The run"). Assumes nothing.
-use mathlib.Core.Bool.{Bool, true, false, cond}
+use mathlib.Core.Bool.{true, cond}
 use mathlib.Core.List.{List, [], _∷_, _++_}
 use Prim.Native.Nat.{ℕ}
 use lib.Dec.{ltb}
@@ -16,6 +16,8 @@ use Rattle.stack.specs.declared.Pairing.the-variants.{Add, Sub, Mul, Div, Mod, 
 use Rattle.stack.specs.Instr as Instr
 use Rattle.machine.specs.declared.Op.{Op}
 use Rattle.machine.specs.declared.Op.the-variants.{Nothing, Push, Pop, Pair, Not, Ptr, Swi, Dup, Roll, CharIn, CharOut, IntIn, IntOut}
+use Rattle.machine.specs.declared.Terms.{Terms}
+use Rattle.machine.specs.declared.Reading.{Reading}
 use Rattle.machine.specs.declared.Stop.{Stop}
 use Rattle.machine.specs.declared.Stop.the-variants.{Completed, MaxSteps, NeedsInput, StackFull, OutputFull, BadInput}
 use Rattle.machine.specs.Output.{Emit, ofTop, charOut, intOut}
@@ -38,29 +40,55 @@ statusOf StackFull = 4
 statusOf OutputFull = 5
 statusOf BadInput = 6
 
--- what an instruction works on: the stack, top first; the outputs, in order; the input bytes used; whether an input
--- instruction was met in abstract mode
+-- what a run is given besides its table and its room: its terms (the limit, and whether it is in abstract mode), and the
+-- input's bytes
+pub record Given : Type 0 where
+  pub terms : Terms
+  pub input : List ℕ
+
+abbrev pub given : Terms → List ℕ → Given
+given terms input = record { terms = terms; input = input }
+
+-- the same under another limit
+abbrev pub underLimit : ℕ → Given → Given
+underLimit k g = record { terms = record { limit = k; «abstract_mode» = g .terms .«abstract_mode» }; input = g .input }
+
+-- the room of a run: how many values the stack holds, and how many outputs there may be
+pub record RunRoom : Type 0 where
+  pub stack : ℕ
+  pub outs : ℕ
+
+-- the reading of the input: so many bytes used; an input instruction met in abstract mode
+abbrev pub usedTo : ℕ → Reading → Reading
+usedTo n r = record { used = n; awaiting = r .awaiting }
+
+abbrev pub waitsFor : Reading → Reading
+waitsFor r = record { used = r .used; awaiting = true }
+
+-- what an instruction works on: the stack, top first; the outputs, in order; what was read of the input
 pub record Store : Type 0 where
   pub pointers : PointerState
   pub stack : List ℤ
   pub outs : List Emit
-  pub used : ℕ
-  pub awaiting : Bool
+  pub reading : Reading
 
 abbrev pub withPointers : PointerState → Store → Store
-withPointers p m = record { pointers = p; stack = m .stack; outs = m .outs; used = m .used; awaiting = m .awaiting }
+withPointers p m = record { pointers = p; stack = m .stack; outs = m .outs; reading = m .reading }
 
 abbrev pub withStack : List ℤ → Store → Store
-withStack s m = record { pointers = m .pointers; stack = s; outs = m .outs; used = m .used; awaiting = m .awaiting }
+withStack s m = record { pointers = m .pointers; stack = s; outs = m .outs; reading = m .reading }
 
 abbrev pub withOuts : List Emit → Store → Store
-withOuts es m = record { pointers = m .pointers; stack = m .stack; outs = es; used = m .used; awaiting = m .awaiting }
+withOuts es m = record { pointers = m .pointers; stack = m .stack; outs = es; reading = m .reading }
+
+abbrev pub withReading : Reading → Store → Store
+withReading r m = record { pointers = m .pointers; stack = m .stack; outs = m .outs; reading = r }
 
 abbrev pub withUsed : ℕ → Store → Store
-withUsed n m = record { pointers = m .pointers; stack = m .stack; outs = m .outs; used = n; awaiting = m .awaiting }
+withUsed n m = withReading (usedTo n (m .reading)) m
 
 abbrev pub waiting : Store → Store
-waiting m = record { pointers = m .pointers; stack = m .stack; outs = m .outs; used = m .used; awaiting = true }
+waiting m = withReading (waitsFor (m .reading)) m
 
 -- what an instruction comes to; `bad-input` where "the line it would read is not UTF-8"
 pub data Effect : Type 0 where
@@ -90,25 +118,24 @@ take (Line.Skip n) m = does (withUsed n m)
 take Line.BadInput m = bad-input
 
 -- "In abstract mode an input instruction reads and pushes nothing. Otherwise it consumes a line"
-unfoldable pub read : Bool → (List ℕ → Number) → List ℕ → Store → Effect
-read true f input m = does (waiting m)
-read false f input m = take (takeOf f input (m .used)) m
+unfoldable pub read : Given → (List ℕ → Number) → Store → Effect
+read g f m = cond (g .terms .«abstract_mode») (does (waiting m)) (take (takeOf f (g .input) (m .reading .used)) m)
 
 -- one instruction; size is "the size of the block just left"
-unfoldable pub exec : Bool → List ℕ → ℕ → Op → Store → Effect
-exec mode input size Nothing m = does m
-exec mode input size Push m = onStack (Instr.push (pos size)) m
-exec mode input size Pop m = onStack Instr.pop m
-exec mode input size (Pair p) m = onStack (Instr.pair p) m
-exec mode input size Not m = onStack Instr.not m
-exec mode input size Ptr m = turn rotated m
-exec mode input size Swi m = turn switched m
-exec mode input size Dup m = onStack Instr.dup m
-exec mode input size Roll m = onStack Instr.roll m
-exec mode input size CharIn m = read mode charOf input m
-exec mode input size CharOut m = write charOut m
-exec mode input size IntIn m = read mode intOf input m
-exec mode input size IntOut m = write intOut m
+unfoldable pub exec : Given → ℕ → Op → Store → Effect
+exec g size Nothing m = does m
+exec g size Push m = onStack (Instr.push (pos size)) m
+exec g size Pop m = onStack Instr.pop m
+exec g size (Pair p) m = onStack (Instr.pair p) m
+exec g size Not m = onStack Instr.not m
+exec g size Ptr m = turn rotated m
+exec g size Swi m = turn switched m
+exec g size Dup m = onStack Instr.dup m
+exec g size Roll m = onStack Instr.roll m
+exec g size CharIn m = read g charOf m
+exec g size CharOut m = write charOut m
+exec g size IntIn m = read g intOf m
+exec g size IntOut m = write intOut m
 
 -- what a step comes to: it is kept, or it is not taken and the run stops
 pub data Out : Type 0 where
@@ -117,8 +144,8 @@ pub data Out : Type 0 where
 
 -- "A step that can't be kept isn't taken": "6 BadInput (the line it would read is not UTF-8), 4 StackFull (the depth after
 -- it would exceed the stack's room), 5 OutputFull (it would emit and no output cell is left), in that order"
-unfoldable pub fitting : ℕ → ℕ → Effect → Out
-fitting stackRoom outRoom bad-input = stops BadInput
-fitting stackRoom outRoom (does m) =
-    cond (ltb stackRoom (length (m .stack))) (stops StackFull)
-    (cond (ltb outRoom (length (m .outs))) (stops OutputFull) (keeps m))
+unfoldable pub fitting : RunRoom → Effect → Out
+fitting room bad-input = stops BadInput
+fitting room (does m) =
+    cond (ltb (room .stack) (length (m .stack))) (stops StackFull)
+    (cond (ltb (room .outs) (length (m .outs))) (stops OutputFull) (keeps m))

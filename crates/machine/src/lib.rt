@@ -1,4 +1,4 @@
-// One instruction over the slices stack and outputs.
+// One instruction over the lent stack and outputs.
 pub mod output;
 
 use crate::output::Wrote;
@@ -10,7 +10,7 @@ ghost use mathlib.Core.Path.{_≡_};
 ghost use Rattle.flow.specs.Pointer.{Valid, rotated, switched};
 ghost use Rattle.text.specs.Input.{charOf, intOf};
 ghost use Rattle.stack.specs.Stack.{Lies};
-ghost use Rattle.machine.specs.Machine.{exec, take, turn, read, numbered, statusOf};
+ghost use Rattle.machine.specs.Machine.{given, exec, take, turn, read, numbered, statusOf};
 ghost use Rattle.machine.specs.Held.{slices, Stands, Execs, StackExecs, atDepth, atOutputs, atUsed, atPointers, atWait, grownOf, wroteOf};
 
 // The instructions; Nothing is what a slide's or a black region's exit carries.
@@ -30,6 +30,12 @@ pub enum Op {
     IntOut,
 }
 
+// The terms of a run: the steps that it may make, and whether it only finds out that input is needed.
+pub struct Terms {
+    pub limit: u64,
+    pub abstract_mode: bool,
+}
+
 // Why a run stops.
 pub enum Stop {
     Completed,
@@ -40,13 +46,18 @@ pub enum Stop {
     BadInput,
 }
 
-// What an instruction works on, beside the slices slices; awaiting: an input instruction was met in abstract mode.
+// What was read of the input: the bytes used; awaiting: an input instruction was met in abstract mode.
+pub struct Reading {
+    pub used: usize,
+    pub awaiting: bool,
+}
+
+// What an instruction works on, beside the lent slices.
 pub struct Core {
     pub pointers: PointerState,
     pub depth: usize,
     pub outputs: usize,
-    pub used: usize,
-    pub awaiting: bool,
+    pub reading: Reading,
 }
 
 // What an instruction leaves, or why it can't be kept.
@@ -74,7 +85,7 @@ impl Core {
     fn at_used(mut self, used: usize) -> Core
         ensures { λ r. ⌜ r ≡ atUsed used self ⌝ }
     {
-        self.used = used;
+        self.reading.used = used;
         self
     }
 
@@ -88,7 +99,7 @@ impl Core {
     fn at_wait(mut self) -> Core
         ensures { λ r. ⌜ r ≡ atWait self ⌝ }
     {
-        self.awaiting = true;
+        self.reading.awaiting = true;
         self
     }
 }
@@ -203,28 +214,28 @@ fn take(stack: &mut [i64], at: Core, taken: Taken) -> Done
 }
 
 // CharIn: the first character of a line; in abstract mode nothing is read, and the run is to stop.
-fn char_in(abstract_mode: bool, input: &[u8], stack: &mut [i64], at: Core) -> Done
+fn char_in(terms: Terms, input: &[u8], stack: &mut [i64], at: Core) -> Done
     requires { ⌜ Lies (now stack) (at .depth) ⌝ }
     requires { ⌜ Valid (at .pointers) ⌝ }
-    ensures { λ r. ⌜ StackExecs (read «abstract_mode» charOf (now (input .entry))) (now (stack .entry)) at (now (stack .exit)) r ⌝ }
+    ensures { λ r. ⌜ StackExecs (read (given terms (now (input .entry))) charOf) (now (stack .entry)) at (now (stack .exit)) r ⌝ }
 {
-    if abstract_mode {
+    if terms.abstract_mode {
         return Done::Kept(at.at_wait());
     }
-    let used = at.used;
+    let used = at.reading.used;
     take(stack, at, text::input::char_in(input, used))
 }
 
 // IntIn: the number that a line is; in abstract mode nothing is read, and the run is to stop.
-fn int_in(abstract_mode: bool, input: &[u8], stack: &mut [i64], at: Core) -> Done
+fn int_in(terms: Terms, input: &[u8], stack: &mut [i64], at: Core) -> Done
     requires { ⌜ Lies (now stack) (at .depth) ⌝ }
     requires { ⌜ Valid (at .pointers) ⌝ }
-    ensures { λ r. ⌜ StackExecs (read «abstract_mode» intOf (now (input .entry))) (now (stack .entry)) at (now (stack .exit)) r ⌝ }
+    ensures { λ r. ⌜ StackExecs (read (given terms (now (input .entry))) intOf) (now (stack .entry)) at (now (stack .exit)) r ⌝ }
 {
-    if abstract_mode {
+    if terms.abstract_mode {
         return Done::Kept(at.at_wait());
     }
-    let used = at.used;
+    let used = at.reading.used;
     take(stack, at, text::input::int_in(input, used))
 }
 
@@ -232,7 +243,7 @@ fn int_in(abstract_mode: bool, input: &[u8], stack: &mut [i64], at: Core) -> Don
 pub fn exec(
     op: Op,
     size: u32,
-    abstract_mode: bool,
+    terms: Terms,
     input: &[u8],
     stack: &mut [i64],
     kinds: &mut [u8],
@@ -240,7 +251,7 @@ pub fn exec(
     at: Core,
 ) -> Done
     requires { ⌜ Stands (slices (now stack) (now kinds) (now values)) at ⌝ }
-    ensures { λ r. ⌜ Execs (exec «abstract_mode» (now (input .entry)) size op) (slices (now (stack .entry)) (now (kinds .entry)) (now (values .entry))) at (slices (now (stack .exit)) (now (kinds .exit)) (now (values .exit))) r ⌝ }
+    ensures { λ r. ⌜ Execs (exec (given terms (now (input .entry))) size op) (slices (now (stack .entry)) (now (kinds .entry)) (now (values .entry))) at (slices (now (stack .exit)) (now (kinds .exit)) (now (values .exit))) r ⌝ }
 {
     let d = at.depth;
     let n = at.outputs;
@@ -254,9 +265,9 @@ pub fn exec(
         Op::Swi => flip_chooser(stack, at),
         Op::Dup => after_growth(at, stack::double(stack, d)),
         Op::Roll => Done::Kept(at.at_depth(stack::roll(stack, d))),
-        Op::CharIn => char_in(abstract_mode, input, stack, at),
+        Op::CharIn => char_in(terms, input, stack, at),
         Op::CharOut => after_output(at, output::char_out(stack, d, kinds, values, n)),
-        Op::IntIn => int_in(abstract_mode, input, stack, at),
+        Op::IntIn => int_in(terms, input, stack, at),
         Op::IntOut => after_output(at, output::int_out(stack, d, kinds, values, n)),
     }
 }

@@ -1,23 +1,30 @@
 -- Demand 3, from what building and running promise: a run of what was built from a picture is not refused, and it follows
--- the picture. Assumes nothing.
-use mathlib.Core.Path.{_≡_, refl, sym, ap, _∙_}
-use mathlib.Core.Bool.{Bool, true, false, true≢false}
+-- the picture.
+--     picture-follows    of a call of `run`
+--     picture-resumed    of a call of `run` that came to MaxSteps, and a call of `resume` to a larger limit
+-- Assumes nothing.
+use mathlib.Core.Path.{_≡_, sym, _∙_}
+use mathlib.Core.Bool.{true, false, true≢false}
 use mathlib.Core.List.{List, [], _∷_}
-use Prim.Native.Nat.{ℕ, zero, suc, _/_, _%_, _<_, _≤_}
+use Prim.Native.Nat.{ℕ, suc, _<_, _≤_}
 use native.Mathlib.Omega.{arith}
 use borrow.Author.Tests.{le-ltb, lt-leb, eq-eqb, ne-eqb}
-use lib.IntN.{ℤ}
 use lib.ListN.{length, getD, take, length-take}
 use lib.Seq.{getD-take}
 use Rattle.base.specs.Numbers.{numbers}
 use Rattle.base.proofs.Refusals.{passed}
-use Rattle.machine.specs.Held.{Slices, slices, stackRoom, outRoom}
-use Rattle.piet.specs.Follows.{Given, Follows}
+use Rattle.machine.specs.declared.Stop.the-variants.{MaxSteps}
+use Rattle.machine.specs.Machine.{Given, underLimit}
+use Rattle.machine.specs.Place.{End}
+use Rattle.machine.specs.Held.{Slices, roomOf}
+use Rattle.machine.proofs.Only.{AsLong}
+use Rattle.piet.specs.Follows.{Follows}
 use Rattle.colour.specs.Palette.{white}
 use Rattle.picture.specs.Picture.{Picture, codels, Sound}
 use Rattle.picture.proofs.Codels.{first-in}
-use Rattle.table.specs.Layout.{rowCell, sizeField, markField, exitCell, rowsRoom, exitsRoom}
+use Rattle.table.specs.Layout.{rowCell, sizeField, markField, fieldAt, exitCell, exitAt, rowsRoom, exitsRoom}
 use Rattle.table.specs.ExitNumber.{targetOf, largestExit}
+use Rattle.table.proofs.Cells.{row-in, exit-in}
 use Rattle.region.specs.Grid.{gridOf}
 use Rattle.region.proofs.MapLaws.{map-few}
 use Rattle.cfg.specs.Table.{Marks, is, none, Builds}
@@ -26,26 +33,22 @@ use Rattle.cfg.specs.Build as building
 use Rattle.cfg.specs.Build.{Written, refusals, refusal}
 use Rattle.cfg.proofs.Refusing.{accepted}
 use Rattle.cfg.proofs.Leads.{exit-fits}
+use Rattle.interpreter.specs.declared.Ended.{Ended}
 use Rattle.interpreter.specs.declared.Ran.{Ran}
 use Rattle.interpreter.specs.declared.Ran.the-variants.{Finished}
-use Rattle.interpreter.specs.Table.{any, wrongMark, wrongExit, validOf, markOf}
-use Rattle.interpreter.specs.Run.{End, runOf, start}
-use Rattle.interpreter.specs.Outcome.{Outcome, outcome, outcomeOf, endedOf, slicesOf, jobOf}
+use Rattle.interpreter.specs.Table.{wrongMark, wrongExit, wrongExits, validOf, markOf}
+use Rattle.interpreter.specs.Outcome.{Outcome, endedOf, slicesOf, endOf}
+use Rattle.interpreter.specs.Placed.{Started, Resumed}
+use Rattle.interpreter.proofs.ValidLaws.{any-nowhere}
+use Rattle.interpreter.proofs.Answering.{finishes}
+use Rattle.interpreter.proofs.Settled.{settled}
+use Rattle.interpreter.proofs.Resuming.{resume-run}
 use Rattle.piet.proofs.Bridge.{Tabled}
 use Rattle.piet.proofs.Following.{follows}
-
-none-of : (f : ℕ → Bool) (k : ℕ) → ((i : ℕ) → i < k → f i ≡ false) → any f k ≡ false
-unfolding any
-none-of f zero h = refl
-none-of f (suc k) h = rw (h k (omega arith), none-of f k (λ i l. h i (omega arith)))
 
 mark-small : {A : Type 0} {x : ℕ} → Marks A x → x ≤ 1
 mark-small (is a) = omega arith
 mark-small (none a) = omega arith
-
--- what the run of a picture is given
-abbrev givenOf : Bool → List ℕ → Slices → Given
-givenOf mode input l = record { mode = mode; input = input; stackRoom = stackRoom l; outRoom = outRoom l }
 
 module _ {p : Picture} {map rows exits work map′ rows′ exits′ work′ : List ℕ} {n : ℕ} (S : Sound p)
     (R : rowsRoom (codels p) ≤ length rows′) (X : exitsRoom (codels p) ≤ length exits′)
@@ -56,30 +59,28 @@ module _ {p : Picture} {map rows exits work map′ rows′ exits′ work′ : Li
   few : n ≤ codels p
   few = map-few (gridOf p) (take (codels p) map′) n (B .regions)
 
-  row-cell : (r f : ℕ) → r < n → f < 5 → getD (take (rowsRoom (codels p)) rows′) (rowCell r f) 0 ≡ getD rows′ (rowCell r f) 0
-  row-cell r f h k = getD-take (rowsRoom (codels p)) rows′ (rowCell r f) 0 (omega (arith, few))
+  field-at : (r f : ℕ) → r < n → f < 5 → fieldAt (take (rowsRoom (codels p)) rows′) r f ≡ fieldAt rows′ r f
+  field-at r f h k = getD-take (rowsRoom (codels p)) rows′ (rowCell r f) 0 (row-in (codels p) r f k (omega (arith, few)))
 
-  exit-cell : (i : ℕ) → i < exitsRoom n → getD (take (exitsRoom (codels p)) exits′) i 0 ≡ getD exits′ i 0
-  exit-cell i h = getD-take (exitsRoom (codels p)) exits′ i 0 (omega (arith, few))
+  exit-at : (r s : ℕ) → r < n → s < 8 → exitAt (take (exitsRoom (codels p)) exits′) r s ≡ exitAt exits′ r s
+  exit-at r s h k = getD-take (exitsRoom (codels p)) exits′ (exitCell r s) 0 (exit-in (codels p) r s k (omega (arith, few)))
 
   pub tabled : Tabled p (take (codels p) map′) rows′ exits′ n
   tabled = record {
     map-long = B .map-long;
     regions = B .regions;
-    size = λ r h. sym (row-cell r sizeField h (omega arith)) ∙ B .row r h .size;
-    exit = λ r s h k. rw (exit-cell (exitCell r s) (omega arith)) at (B .exit r s h k);
+    size = λ r h. sym (field-at r sizeField h (omega arith)) ∙ B .row r h .size;
+    exit = λ r s h k. rw (exit-at r s h k) at (B .exit r s h k);
   }
 
   mark-right : (r : ℕ) → r < n → wrongMark rows′ r ≡ false
-  mark-right r h = le-ltb 1 (markOf rows′ r) (rw (row-cell r markField h (omega arith)) at (mark-small (B .node r h)))
+  mark-right r h = le-ltb 1 (markOf rows′ r) (rw (field-at r markField h (omega arith)) at (mark-small (B .node r h)))
 
-  exit-right : (i : ℕ) → i < exitsRoom n → wrongExit n (getD exits′ i 0) ≡ false
-  exit-right i h =
-      let e : exitCell (i / 8) (i % 8) ≡ i = omega arith in
-      let z : getD (take (exitsRoom (codels p)) exits′) (exitCell (i / 8) (i % 8)) 0 ≡ getD exits′ i 0 =
-      ap (λ (k : ℕ). getD (take (exitsRoom (codels p)) exits′) k 0) e ∙ exit-cell i h in
-      let l = exit-fits S B (i / 8) (i % 8) (omega arith) (omega arith) in
-      rw (le-ltb largestExit (getD exits′ i 0) (rw z at (l .0)), lt-leb n (targetOf (getD exits′ i 0)) (rw z at (l .1)))
+  exit-right : (r s : ℕ) → r < n → s < 8 → wrongExit n (exitAt exits′ r s) ≡ false
+  exit-right r s h k =
+      let z = exit-at r s h k in
+      let l = exit-fits S B r s h k in
+      rw (le-ltb largestExit (exitAt exits′ r s) (rw z at (l .0)), lt-leb n (targetOf (exitAt exits′ r s)) (rw z at (l .1)))
 
   -- the run does not refuse the table
   pub valid : validOf n rows′ exits′ ≡ true
@@ -90,23 +91,14 @@ module _ {p : Picture} {map rows exits work map′ rows′ exits′ work′ : Li
         le-ltb 65536 n (omega (arith, few, S .few)),
         le-ltb (length rows′) (rowsRoom n) (omega (arith, few)),
         le-ltb (length exits′) (exitsRoom n) (omega (arith, few)),
-        none-of (wrongMark rows′) n mark-right,
-        none-of (λ (i : ℕ). wrongExit n (getD exits′ i 0)) (exitsRoom n) exit-right,
+        any-nowhere (wrongMark rows′) n mark-right,
+        any-nowhere (wrongExits n exits′) n (λ r h. any-nowhere (λ s. wrongExit n (exitAt exits′ r s)) 8 (λ s k. exit-right r s h k)),
       )
 
-  -- a run of what was built is finished, and follows the picture
-  pub run-follows : (getD (p .colours) 0 0 ≡ white → ⊥) → (limit : ℕ) (mode : Bool) (input : List ℕ) (l : Slices) {r : Ran} {stack : List ℤ} {kinds : List ℕ} {values : List ℤ}
-      → outcome r stack kinds values ≡ outcomeOf n rows′ exits′ limit mode input l
-      → (e : End) × (r ≡ Finished (endedOf e)) × Follows p (take (codels p) map′) (givenOf mode input l) limit e × (e .at .region < n)
-      × (slices stack kinds values ≡ slicesOf l (e .at .store))
-  run-follows entry limit mode input l {r} e =
-      let f = follows S tabled (givenOf mode input l) entry limit in (
-        runOf (jobOf rows′ exits′ mode input l) limit start,
-        ap (λ (o : Outcome). o .answer) (rw valid at e),
-        f .0,
-        f .1,
-        ap (λ (o : Outcome). o .slices) (rw valid at e),
-      )
+  -- its run follows the picture
+  pub run-follows : (getD (p .colours) 0 0 ≡ white → ⊥) → (g : Given) (l : Slices)
+      → Follows p (take (codels p) map′) g (roomOf l) (endOf rows′ exits′ g l) × (endOf rows′ exits′ g l .at .region < n)
+  run-follows entry g l = follows S tabled g (roomOf l) entry
 
 -- what is built is not refused, so it does not begin white
 coloured : (p : Picture) (m r e w : ℕ) (v : List ℕ) → numbers 0 v ≡ refusal p m r e w → getD (p .colours) 0 0 ≡ white → ⊥
@@ -120,26 +112,48 @@ coloured p m r e w v h k =
     let g = passed _ 8 _ v _ _ (f .1) in
     true≢false (sym (eq-eqb _ _ k) ∙ g .0)
 
--- Demand 3, from the two contracts as they stand: `build` answered n, and `run` was called on what it wrote
-pub picture-follows : {p : Picture} {map rows exits work map′ rows′ exits′ work′ : List ℕ} {n : ℕ}
-    → building.Outcome p map rows exits work (Done n) map′ rows′ exits′ work′
-    → (limit : ℕ) (mode : Bool) (input : List ℕ) (l : Slices) {r : Ran} {stack : List ℤ} {kinds : List ℕ} {values : List ℤ}
-    → outcome r stack kinds values ≡ outcomeOf n rows′ exits′ limit mode input l
-    → (e : End) × (r ≡ Finished (endedOf e)) × Follows p (take (codels p) map′) (givenOf mode input l) limit e × (e .at .region < n)
-    × (slices stack kinds values ≡ slicesOf l (e .at .store))
-picture-follows (building.refused k v e h) limit mode input l o = absurd (refused-done k _ v h)
+-- what is known of a table of n regions that was built from a picture: a run does not refuse it, and follows the picture
+record Runs (p : Picture) (map rows exits : List ℕ) (n : ℕ) : Type 0 where
+  valid : validOf n rows exits ≡ true
+  follows : (g : Given) (l : Slices)
+      → Follows p (take (codels p) map) g (roomOf l) (endOf rows exits g l) × (endOf rows exits g l .at .region < n)
+
+runs : {p : Picture} {map rows exits work map′ rows′ exits′ work′ : List ℕ} {n : ℕ}
+    → building.Outcome p map rows exits work (Done n) map′ rows′ exits′ work′ → Runs p map′ rows′ exits′ n
+runs (building.refused k v e h) = absurd (refused-done k _ v h)
   where
     refused-done : (k n : ℕ) (v : List ℕ) → numbers 0 (n ∷ 0 ∷ []) ≡ numbers (suc k) v → ⊥
     refused-done k n v h = let z : suc k ≡ 0 = cc in omega arith
-picture-follows {p} {map} {rows} {exits} {work} {rows′ = rows′} {exits′ = exits′} (building.done e W) limit mode input l o =
+runs {p} {map} {rows} {exits} {work} {rows′ = rows′} {exits′ = exits′} (building.done e W) =
     let s = accepted p (length map) (length rows) (length exits) (length work) (0 ∷ 0 ∷ []) (sym e) in
-    run-follows (s .sound) (long (rowsRoom (codels p)) rows′ (W .builds .rows-long)) (long (exitsRoom (codels p)) exits′ (W .builds .exits-long)) W
-    (coloured p (length map) (length rows) (length exits) (length work) (0 ∷ 0 ∷ []) (sym e))
-    limit
-    mode
-    input
-    l
-    o
+    let R = long (rowsRoom (codels p)) rows′ (W .builds .rows-long) in
+    let X = long (exitsRoom (codels p)) exits′ (W .builds .exits-long) in
+    let begins = coloured p (length map) (length rows) (length exits) (length work) (0 ∷ 0 ∷ []) (sym e) in
+    record { valid = valid (s .sound) R X W; follows = λ g l. run-follows (s .sound) R X W begins g l }
   where
     long : (k : ℕ) (x : List ℕ) → length (take k x) ≡ k → k ≤ length x
     long k x h = omega (arith, length-take k x)
+
+module _ {p : Picture} {map rows exits work map′ rows′ exits′ work′ : List ℕ} {n : ℕ}
+    (o : building.Outcome p map rows exits work (Done n) map′ rows′ exits′ work′) where
+  -- Demand 3, from the two contracts as they stand: `build` answered n, and `run` was called on what it wrote
+  pub picture-follows : (g : Given) (l : Slices) {r : Ran} {l′ : Slices} → Outcome n rows′ exits′ g l r l′
+      → (e : End) × (r ≡ Finished (endedOf e)) × Follows p (take (codels p) map′) g (roomOf l) e × (e .at .region < n)
+      × (l′ ≡ slicesOf l (e .at .store))
+  picture-follows g l q =
+      let f = runs o .follows g l in
+      let d = finishes n rows′ exits′ g l q (runs o .valid) in
+      (endOf rows′ exits′ g l, d .0, f .0, f .1, d .1)
+
+  -- The same of a run that was stopped and resumed: `run` to the limit a came to MaxSteps (what it promises then is
+  -- `Started`, by `Resumable`), and `resume` was called to the limit b.
+  pub picture-resumed : (g : Given) (a b : ℕ) (l l₁ l₂ : Slices) (r₁ r₂ : Ended) → a ≤ b → AsLong l₁ l → AsLong l₂ l
+      → Started n rows′ exits′ (underLimit a g) l l₁ r₁ → r₁ .stop ≡ MaxSteps
+      → Resumed n rows′ exits′ (underLimit b g) l₁ (r₁ .at) l₂ r₂
+      → (e : End) × (r₂ ≡ endedOf e) × Follows p (take (codels p) map′) (underLimit b g) (roomOf l) e × (e .at .region < n)
+      × (l₂ ≡ slicesOf l (e .at .store))
+  picture-resumed g a b l l₁ l₂ r₁ r₂ h long₁ long₂ p stop q =
+      let e = endOf rows′ exits′ (underLimit b g) l in
+      let f = runs o .follows (underLimit b g) l in
+      let d = settled n e l₂ l r₂ long₂ (resume-run n rows′ exits′ g l a b l₁ l₂ r₁ r₂ h long₁ p stop q) in
+      (e, d .0, f .0, f .1, d .1)

@@ -16,13 +16,9 @@ use Rattle.cfg.specs.declared.building.Built.{Built}
 use Rattle.cfg.specs.declared.building.Built.the-variants.{Done}
 use Rattle.cfg.specs.Build as building
 use Rattle.cfg.specs.Build.{Written}
-use Rattle.interpreter.specs.declared.Ended.{Ended}
-use Rattle.interpreter.specs.declared.Ran.the-variants as Ran
 use Rattle.piet.specs.declared.run_picture.Pictured.{Pictured}
-use Rattle.piet.specs.declared.run_picture.Pictured.the-variants.{Finished, Refused}
 use Rattle.piet.specs.RunPicture.{Asked, Lends, refusalOf, RanPicture, Outcome, done}
-use Rattle.piet.specs.Drawn.{ranOf, Draws}
-use Rattle.base.proofs.Clash.{clash}
+use Rattle.piet.specs.Drawn.{picturedOf, Draws}
 use Rattle.piet.proofs.Built.{picture-follows}
 use Rattle.piet.proofs.Seeing.{length-under}
 use Rattle.piet.proofs.Refusing.{Accepted}
@@ -54,18 +50,14 @@ written : {p : Picture} {map rows exits work map′ rows′ exits′ work′ : L
 written {n = n} (building.refused k v e h) = absurd (refused k v (n ∷ 0 ∷ []) (sym h))
 written (building.done e W) = W
 
-finished : (r : Pictured) {x : Ended} → ranOf r ≡ Ran.Finished x → r ≡ Finished x
-finished (Finished e) h = cc
-finished (Refused number row column) h = clash (cc)
-
 -- what is lent, with the colours of the pixels for the lent ones
 abbrev coloured : Asked → Lends → Lends
 coloured a l = record { colours = coloursUnder (a .pixels) (a .setting); map = l .map; rows = l .rows; exits = l .exits; work = l .work; run = l .run }
 
 pub drawn : (a : Asked) (l l′ : Lends) {r : Pictured} → refusalOf a l ≡ numbers 0 (0 ∷ 0 ∷ [])
     → l′ .colours ≡ lent (coloursUnder (a .pixels) (a .setting)) (l .colours)
-    → Draws (a .height) (a .width) (a .codel) (a .limit) (a .mode) (a .input) (coloured a l) r (coloured a l′) → Outcome a l r l′
+    → Draws (a .height) (a .width) (a .codel) (a .given) (coloured a l) r (coloured a l′) → Outcome a l r l′
 drawn a l l′ {r} none colours D =
-    let F = picture-follows (D .built) (a .limit) (a .mode) (a .input) (l .run) (D .ran) in
+    let F = picture-follows (D .built) (a .given) (l .run) (D .runs .outcome) in
     let R : RanPicture a l l′ (F .0) = record { colours = colours; regions = D .regions; table = written (D .built); follows = F .2; inside = F .3; run = F .4 } in
-    subst (λ (x : Pictured). Outcome a l x l′) (sym (finished r (F .1))) (done none R)
+    subst (λ (x : Pictured). Outcome a l x l′) (sym (D .runs .is ∙ ap picturedOf (F .1))) (done none R)

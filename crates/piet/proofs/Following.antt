@@ -1,13 +1,16 @@
--- Demand 3: the run of a table built from a picture follows the picture. Assumes nothing.
+-- Demand 3: the run of a table built from a picture follows the picture.
+--     history-walks    the exits that a run takes are, read as moves, a walk of the picture
+--     follows-from     what is left of a run, from where it stands after a history, follows the picture
+--     follows          and so does the run from the start
+-- Assumes nothing.
 use mathlib.Core.Path.{_≡_, refl, sym, subst, _∙_}
 use mathlib.Core.Bool.{Bool, true, false, cond, true≢false}
 use mathlib.Core.List.{List, [], _∷_}
-use mathlib.Core.Logic.{_↔_}
-use Prim.Native.Nat.{ℕ, zero, suc, _+_, _<_}
+use mathlib.Core.Logic.{_↔_, _⊎_, inl, inr}
+use Prim.Native.Nat.{ℕ, _+_, _<_}
 use native.Mathlib.Omega.{arith}
 use native.Mathlib.Nat.{zero-div, zero-mod, zero-mul, zero-add}
-use borrow.Author.Tests.{eq-eqb, ne-eqb}
-use lib.Dec.{ltb}
+use borrow.Author.Tests.{eqb-true, eqb-false}
 use lib.IntN.{ℤ}
 use lib.ListN.{length, getD}
 use Rattle.flow.specs.declared.PointerState.{PointerState}
@@ -19,12 +22,15 @@ use Rattle.text.specs.declared.input.Taken.the-variants.{Push, Skip, BadInput a
 use Rattle.text.specs.Input.{charOf, intOf}
 use Rattle.text.specs.Reading.{takeOf}
 use Rattle.machine.specs.declared.Stop.{Stop}
-use Rattle.machine.specs.declared.Stop.the-variants.{Completed, MaxSteps, NeedsInput, StackFull, OutputFull, BadInput}
-use Rattle.machine.specs.Machine.{Store, Effect, does, bad-input, Out, keeps, stops, numbered, exec, fitting, withPointers, byTop, turn, write, take, read}
+use Rattle.machine.specs.declared.Stop.the-variants.{Completed, MaxSteps, NeedsInput}
+use Rattle.machine.specs.Machine.{Given, RunRoom, Store, Effect, does, bad-input, keeps, stops, numbered, exec, withPointers, byTop, turn, write, take, read}
+use Rattle.machine.specs.Place.{Machine, End, start}
 use Rattle.machine.specs.declared.Op.{Op}
 use Rattle.machine.specs.declared.Op.the-variants.{Nothing, Push as PushOp, Pop, Pair, Not, Ptr, Swi, Dup, Roll, CharIn, CharOut, IntIn, IntOut}
+use Rattle.machine.proofs.Fitting.{fit-kept, fit-stops, not-completed, not-limit, not-wait}
 use Rattle.piet.specs.Moves.{FirstOpen, NoneOpen}
-use Rattle.piet.specs.Follows.{Given, Move, doing, Walk, starts, moves, Barred, Follows}
+use Rattle.piet.specs.Follows.{Move, doing, Walk, starts, moves, Barred, Follows}
+use Rattle.piet.specs.Decoded.{moveBy, onto}
 use Rattle.colour.specs.Palette.{white}
 use Rattle.picture.specs.Picture.{Picture, colsOf, codels, codelColour, Sound}
 use Rattle.picture.proofs.Codels.{first-in}
@@ -34,8 +40,10 @@ use Rattle.cfg.specs.Nodes.{Node, entry}
 use Rattle.cfg.proofs.NodeLaws.{joined-colour}
 use Rattle.region.specs.Grid.{gridOf}
 use Rattle.region.proofs.MapLaws.{map-low}
-use Rattle.interpreter.specs.Table.{exitOf, pointersOf}
-use Rattle.interpreter.specs.Run.{Job, Machine, End, start, halts, effectOf, arrive, leave, stepOf, after, runOf}
+use Rattle.interpreter.specs.Table.{pointersOf}
+use Rattle.interpreter.specs.Run.{Job, halts, exitFrom, stepOf, runOf, ran}
+use Rattle.interpreter.specs.History.{Passes, stays, passes, History}
+use Rattle.interpreter.proofs.Histories.{Kept, Halts, awaits, ends, barred, step-kept, step-halts, run-history}
 use Rattle.base.proofs.Clash.{clash}
 use Rattle.piet.proofs.Bridge.{Tabled, Taken, none, some, taken}
 
@@ -56,137 +64,130 @@ taking (Push v n) m h = h
 taking (Skip n) m h = h
 taking BadLine m h = tt
 
-reading : (mode : Bool) (f : List ℕ → Number) (input : List ℕ) (m : Store) → Valid (m .pointers) → Holds (read mode f input m)
+either : (t : Bool) (d e : Effect) → Holds d → Holds e → Holds (cond t d e)
+either true d e h k = h
+either false d e h k = k
+
+reading : (g : Given) (f : List ℕ → Number) (m : Store) → Valid (m .pointers) → Holds (read g f m)
 unfolding read
-reading true f input m h = h
-reading false f input m h = taking (takeOf f input (m .used)) m h
+reading g f m h = either (g .terms .«abstract_mode») _ _ h (taking (takeOf f (g .input) (m .reading .used)) m h)
 
-executing : (mode : Bool) (input : List ℕ) (size : ℕ) (op : Op) (m : Store) → Valid (m .pointers) → Holds (exec mode input size op m)
+executing : (g : Given) (size : ℕ) (op : Op) (m : Store) → Valid (m .pointers) → Holds (exec g size op m)
 unfolding exec turn write
-executing mode input size Nothing m h = h
-executing mode input size PushOp m h = h
-executing mode input size Pop m h = h
-executing mode input size (Pair o) m h = h
-executing mode input size Not m h = h
-executing mode input size Ptr m h = by-top rotated valid-rotated (m .stack) (m .pointers) h
-executing mode input size Swi m h = by-top switched valid-switched (m .stack) (m .pointers) h
-executing mode input size Dup m h = h
-executing mode input size Roll m h = h
-executing mode input size CharIn m h = reading mode charOf input m h
-executing mode input size CharOut m h = h
-executing mode input size IntIn m h = reading mode intOf input m h
-executing mode input size IntOut m h = h
-
--- ---- a step that is kept did what its instruction does, and one that is not kept stops as bad input or for room
-
-kept : (a b : ℕ) (e : Effect) {s : Store} → fitting a b e ≡ keeps s → e ≡ does s
-unfolding fitting
-kept a b bad-input {s} h = clash (cc)
-kept a b (does m) {s} h = first (ltb a (length (m .stack))) h
-  where
-    second : (t : Bool) → cond t (stops OutputFull) (keeps m) ≡ keeps s → does m ≡ does s
-    second true h = clash (cc)
-    second false h = cc
-
-    first : (t : Bool) → cond t (stops StackFull) (cond (ltb b (length (m .outs))) (stops OutputFull) (keeps m)) ≡ keeps s → does m ≡ does s
-    first true h = clash (cc)
-    first false h = second (ltb b (length (m .outs))) h
+executing g size Nothing m h = h
+executing g size PushOp m h = h
+executing g size Pop m h = h
+executing g size (Pair o) m h = h
+executing g size Not m h = h
+executing g size Ptr m h = by-top rotated valid-rotated (m .stack) (m .pointers) h
+executing g size Swi m h = by-top switched valid-switched (m .stack) (m .pointers) h
+executing g size Dup m h = h
+executing g size Roll m h = h
+executing g size CharIn m h = reading g charOf m h
+executing g size CharOut m h = h
+executing g size IntIn m h = reading g intOf m h
+executing g size IntOut m h = h
 
 -- a move that is kept keeps the pointers a state
-pub keeps-valid : (p : Picture) (map : List ℕ) (g : Given) (r : ℕ) (u : PointerState) (i : ℕ) (m : Store) {m′ : Store} → doing p map g r u i m ≡ keeps m′
-    → Valid u → Valid (m′ .pointers)
-keeps-valid p map g r u i m h v =
-    subst Holds (kept _ _ _ h) (executing (g .mode) (g .input) (tally r (codels p) map) (numbered i) (withPointers u m) v)
+pub keeps-valid : (p : Picture) (map : List ℕ) (g : Given) (room : RunRoom) (r : ℕ) (u : PointerState) (i : ℕ) (m : Store) {m′ : Store}
+    → doing p map g room r u i m ≡ keeps m′ → Valid u → Valid (m′ .pointers)
+keeps-valid p map g room r u i m h v = subst Holds (fit-kept room _ h) (executing g (tally r (codels p) map) (numbered i) (withPointers u m) v)
 
--- the stops of a step that is not kept
-data Unkept : Stop → Type 0 where
-  bad : Unkept BadInput
-  stack : Unkept StackFull
-  output : Unkept OutputFull
+-- ---- a run over the table walks the picture
 
-unkept : (a b : ℕ) (e : Effect) {s : Stop} → fitting a b e ≡ stops s → Unkept s
-unfolding fitting
-unkept a b bad-input {s} h = let z : BadInput ≡ s = cc in subst Unkept z bad
-unkept a b (does m) {s} h = first (ltb a (length (m .stack))) h
-  where
-    second : (t : Bool) → cond t (stops OutputFull) (keeps m) ≡ stops s → Unkept s
-    second true h = let z : OutputFull ≡ s = cc in subst Unkept z output
-    second false h = clash (cc)
+-- as many moves as exits
+onto-length : (r : ℕ) (exits : List ℕ) (history : List Move) → length (onto r exits history) ≡ length exits + length history
+unfolding onto
+onto-length r [] history = omega arith
+onto-length r (x ∷ exits) history = omega (arith, onto-length (targetOf x) exits (moveBy r x ∷ history))
 
-    first : (t : Bool) → cond t (stops StackFull) (cond (ltb b (length (m .outs))) (stops OutputFull) (keeps m)) ≡ stops s → Unkept s
-    first true h = let z : StackFull ≡ s = cc in subst Unkept z stack
-    first false h = second (ltb b (length (m .outs))) h
-
-no-completed : {s : Stop} → Unkept s → s ≡ Completed → ⊥
-no-completed bad h = clash (cc)
-no-completed stack h = clash (cc)
-no-completed output h = clash (cc)
-
-no-limit : {s : Stop} → Unkept s → s ≡ MaxSteps → ⊥
-no-limit bad h = clash (cc)
-no-limit stack h = clash (cc)
-no-limit output h = clash (cc)
-
-no-wait : {s : Stop} → Unkept s → s ≡ NeedsInput → ⊥
-no-wait bad h = clash (cc)
-no-wait stack h = clash (cc)
-no-wait output h = clash (cc)
-
-module _ {p : Picture} {map rows exits : List ℕ} {n : ℕ} (S : Sound p) (B : Tabled p map rows exits n) (g : Given) where
+module _ {p : Picture} {map rows exits : List ℕ} {n : ℕ} (S : Sound p) (B : Tabled p map rows exits n) (g : Given) (room : RunRoom) where
   abbrev job : Job
-  job = record { rows = rows; exits = exits; mode = g .mode; input = g .input; stackRoom = g .stackRoom; outRoom = g .outRoom }
+  job = record { rows = rows; exits = exits; given = g; room = room }
+
+  -- where a run stands after a history: the picture is walked to there; it is a node, and numbered; the pointers are a state
+  pub record Stands (history : List Move) (m : Machine) : Type 0 where
+    pub walk : Walk p map g room history (m .region) (m .store)
+    pub node : Node p map (m .region)
+    pub inside : m .region < n
+    pub valid : Valid (m .store .pointers)
+
+  -- the exit taken there, as a move of the picture
+  abbrev exit-taken : {history : List Move} {m : Machine} → Stands history m → Taken S B (m .region) (m .store .pointers) (exitFrom job m)
+  exit-taken {m = m} s = taken S B (m .region) (m .store .pointers) (s .inside) (s .valid) (s .node)
+
+  -- one step more
+  step-walks : {history : List Move} {m m′ : Machine} → Stands history m → Kept job m m′ → Stands (moveBy (m .region) (exitFrom job m) ∷ history) m′
+  step-walks {history} {m} {m′} s k = go (exit-taken s)
+    where
+      go : Taken S B (m .region) (m .store .pointers) (exitFrom job m) → Stands (moveBy (m .region) (exitFrom job m) ∷ history) m′
+      go (none z shut) = absurd (eqb-false (exitFrom job m) 0 (k .some) z)
+      go (some d F M t u) =
+          let x = exitFrom job m in
+          let z : doing p map g room (m .region) (pointersOf x) (instructionOf x) (m .store) ≡ keeps (m′ .store) = rw (B .size (m .region) (s .inside)) at (k .store) in
+          record {
+            walk = rw (k .region) (moves (s .walk) (k .unawaited) F z);
+            node = rw (k .region) M;
+            inside = rw (k .region) t;
+            valid = keeps-valid p map g room (m .region) (pointersOf x) (instructionOf x) (m .store) z u;
+          }
+
+  -- the exits that a run takes are, read as moves, a walk of the picture
+  pub history-walks : {history : List Move} {m m′ : Machine} {taken : List ℕ} → Stands history m → Passes job m taken m′
+      → Stands (onto (m .region) taken history) m′
+  unfolding onto
+  history-walks s stays = s
+  history-walks {history} {m} {m′} s (passes {m′ = next} {exits = rest} e q) =
+      let k = step-kept job m next e in
+      subst (λ (r : ℕ). Stands (onto r rest (moveBy (m .region) (exitFrom job m) ∷ history)) m′) (k .region) (history-walks (step-walks s k) q)
 
   -- none of the eight is open, and one is
   both : {r target i : ℕ} {q u : PointerState} → NoneOpen p map r q → FirstOpen p map r q target u i → ⊥
   both N F = N .all (F .attempt) (F .few) .never _ _ _ (F .opens)
 
   -- a run follows the picture and ends at a region that is numbered
-  abbrev Ends : ℕ → End → Type 0
-  Ends limit e = Follows p map g limit e × (e .at .region < n)
+  abbrev Ends : End → Type 0
+  Ends e = Follows p map g room e × (e .at .region < n)
 
-  -- what is known where a run stands, on the way to a limit, gives the rest of it
-  abbrev On : ℕ → ℕ → Type 0
-  On limit left =
-      (m : Machine) (history : List Move) → Walk p map g history (m .region) (m .store) → m .steps ≡ length history → Node p map (m .region)
-      → m .region < n → Valid (m .store .pointers) → m .steps + left ≡ limit → Ends limit (runOf job left m)
+  abbrev limit : ℕ
+  limit = g .terms .limit
 
-  follows-from : (left : ℕ) (m : Machine) (history : List Move) (limit : ℕ) → Walk p map g history (m .region) (m .store)
-      → m .steps ≡ length history → Node p map (m .region) → m .region < n → Valid (m .store .pointers) → m .steps + left ≡ limit
-      → Ends limit (runOf job left m)
-  unfolding runOf after arrive
-  follows-from zero m history limit w c N l v e = (
+  -- it ends at the limit
+  at-the-limit : (m : Machine) (history : List Move) → Stands history m → m .steps ≡ length history → m .steps ≡ limit
+      → Ends (record { stop = MaxSteps; at = m })
+  at-the-limit m history s c e = (
     record {
       history = history;
-      walk = w;
+      walk = s .walk;
       counted = c;
       within = omega arith;
-      limited = (λ h. omega arith, λ h. refl);
+      limited = (λ h. e, λ h. refl);
       awaited = (λ h. clash (cc), λ h. absurd (late (h .0)));
       completed = (λ h. clash (cc), λ h. absurd (late (h .0)));
       barred = λ h. absurd (h refl);
     },
-    l,
+    s .inside,
   )
     where
       late : m .steps < limit → ⊥
       late h = omega arith
-  follows-from (suc left) m history limit w c N l v e =
-      awaited (λ m′ h′ w′ c′ N′ l′ v′ e′. follows-from left m′ h′ limit w′ c′ N′ l′ v′ e′) (m .store .awaiting) refl
-    where
-      below : m .steps < limit
-      below = omega arith
 
+  -- or below it, where the next step is not taken
+  below-the-limit : (stop : Stop) (m : Machine) (history : List Move) → Stands history m → m .steps ≡ length history → m .steps < limit
+      → Halts job m stop → Ends (record { stop = stop; at = m })
+  below-the-limit stop m history s c below H = go H (exit-taken s)
+    where
       short : m .steps ≡ limit → ⊥
       short h = omega arith
 
-      here : (s : Stop) → (s ≡ MaxSteps → ⊥) → ((s ≡ NeedsInput) ↔ (m .store .awaiting ≡ true))
-          → ((s ≡ Completed) ↔ ((m .store .awaiting ≡ false) × NoneOpen p map (m .region) (m .store .pointers)))
-          → ((s ≡ NeedsInput → ⊥) → (s ≡ Completed → ⊥) → Barred p map g (m .region) (m .store) s)
-          → Ends limit (record { stop = s; at = m })
-      here s x i j k = (
+      here : (t : Stop) → (t ≡ MaxSteps → ⊥) → ((t ≡ NeedsInput) ↔ (m .store .reading .awaiting ≡ true))
+          → ((t ≡ Completed) ↔ ((m .store .reading .awaiting ≡ false) × NoneOpen p map (m .region) (m .store .pointers)))
+          → ((t ≡ NeedsInput → ⊥) → (t ≡ Completed → ⊥) → Barred p map g room (m .region) (m .store) t)
+          → Ends (record { stop = t; at = m })
+      here t x i j k = (
         record {
           history = history;
-          walk = w;
+          walk = s .walk;
           counted = c;
           within = omega arith;
           limited = (λ h. absurd (x h), λ h. absurd (short h));
@@ -194,51 +195,51 @@ module _ {p : Picture} {map rows exits : List ℕ} {n : ℕ} (S : Sound p) (B : 
           completed = (λ h. (below, j .0 h .0, j .0 h .1), λ h. j .1 (h .1, h .2));
           barred = λ y. k;
         },
-        l,
+        s .inside,
       )
 
-      arrives : On limit left → m .store .awaiting ≡ false → (x : ℕ) → FirstOpen p map (m .region) (m .store .pointers) (targetOf x) (pointersOf x) (instructionOf x) → Node p map (targetOf x) → targetOf x < n
-          → Valid (pointersOf x) → (o : Out)
-          → fitting (g .stackRoom) (g .outRoom) (effectOf job x m) ≡ o
-          → Ends limit (after (runOf job left) m (arrive x m o))
-      arrives on f x F M t u (stops s) h =
-          let k = unkept (g .stackRoom) (g .outRoom) _ h in
-          let z : doing p map g (m .region) (pointersOf x) (instructionOf x) (m .store) ≡ stops s = rw (B .size (m .region) l) at h in
-          here s (no-limit k)
-          (λ q. absurd (no-wait k q), λ q. absurd (true≢false (sym q ∙ f)))
-          (λ q. absurd (no-completed k q), λ q. absurd (both (q .1) F))
+      go : {t : Stop} → Halts job m t → Taken S B (m .region) (m .store .pointers) (exitFrom job m) → Ends (record { stop = t; at = m })
+      go (awaits f) T =
+          here NeedsInput (λ h. clash (cc)) (λ h. f, λ h. refl) (λ h. clash (cc), λ h. absurd (true≢false (sym f ∙ h .0)))
+          (λ y y′. absurd (y refl))
+      go (ends f q) (none z shut) =
+          here Completed (λ h. clash (cc)) (λ h. clash (cc), λ h. absurd (true≢false (sym h ∙ f))) (λ h. (f, shut), λ h. refl)
+          (λ y y′. absurd (y′ refl))
+      go (ends f q) (some d F M t u) = absurd (d (eqb-true (exitFrom job m) 0 q))
+      go (barred f q h) (none z shut) = absurd (eqb-false (exitFrom job m) 0 q z)
+      go (barred {s = t} f q h) (some d F M low u) =
+          let x = exitFrom job m in
+          let k = fit-stops room _ h in
+          let z : doing p map g room (m .region) (pointersOf x) (instructionOf x) (m .store) ≡ stops t = rw (B .size (m .region) (s .inside)) at h in
+          here t (not-limit k)
+          (λ y. absurd (not-wait k y), λ y. absurd (true≢false (sym y ∙ f)))
+          (λ y. absurd (not-completed k y), λ y. absurd (both (y .1) F))
           (λ y y′. record { target = targetOf x; pointers = pointersOf x; instruction = instructionOf x; next = F; unkept = z })
-      arrives on f x F M t u (keeps s) h =
-          let z : doing p map g (m .region) (pointersOf x) (instructionOf x) (m .store) ≡ keeps s = rw (B .size (m .region) l) at h in
-          on (record { region = targetOf x; steps = m .steps + 1; store = s })
-          (record { from = m .region; to = targetOf x; pointers = pointersOf x; instruction = instructionOf x } ∷ history)
-          (moves w f F z)
-          (omega arith)
-          M
-          t
-          (keeps-valid p map g (m .region) (pointersOf x) (instructionOf x) (m .store) z u)
-          (omega arith)
 
-      leaves : On limit left → Taken S B (m .region) (m .store .pointers) (exitOf exits (m .region) (m .store .pointers)) → m .store .awaiting ≡ false
-          → Ends limit (after (runOf job left) m (leave job (exitOf exits (m .region) (m .store .pointers)) m))
-      leaves on (none z shut) f = rw (eq-eqb (exitOf exits (m .region) (m .store .pointers)) 0 z)
-          (here Completed (λ h. clash (cc)) (λ h. clash (cc), λ h. absurd (true≢false (sym h ∙ f))) (λ h. (f, shut), λ h. refl)
-          (λ y y′. absurd (y′ refl)))
-      leaves on (some d F M t u) f =
-          rw (ne-eqb (exitOf exits (m .region) (m .store .pointers)) 0 d)
-          (arrives on f (exitOf exits (m .region) (m .store .pointers)) F M t u
-          (fitting (g .stackRoom) (g .outRoom) (effectOf job (exitOf exits (m .region) (m .store .pointers)) m))
-          refl)
+  -- the rest of a run, from where it stands after a history, follows the picture
+  pub follows-from : (left : ℕ) (m : Machine) (history : List Move) → Stands history m → m .steps ≡ length history
+      → m .steps + left ≡ limit → Ends (runOf job left m)
+  follows-from left m history s c e = go (H .why)
+    where
+      H : History job left m (runOf job left m)
+      H = run-history job left m
 
-      Stepped : Bool → Type 0
-      Stepped t =
-          Ends limit (after (runOf job left) m (cond t (halts NeedsInput) (leave job (exitOf exits (m .region) (m .store .pointers)) m)))
+      end : End
+      end = runOf job left m
 
-      awaited : On limit left → (t : Bool) → m .store .awaiting ≡ t → Ends limit (after (runOf job left) m (stepOf job m))
-      awaited on true f = subst Stepped (sym f)
-          (here NeedsInput (λ h. clash (cc)) (λ h. f, λ h. refl) (λ h. clash (cc), λ h. absurd (true≢false (sym f ∙ h .0)))
-          (λ y y′. absurd (y refl)))
-      awaited on false f = subst Stepped (sym f) (leaves on (taken S B (m .region) (m .store .pointers) l v N) f)
+      at : Stands (onto (m .region) (H .exits) history) (end .at)
+      at = history-walks s (H .passes)
+
+      counted : end .at .steps ≡ length (onto (m .region) (H .exits) history)
+      counted = omega (arith, H .counted, onto-length (m .region) (H .exits) history)
+
+      go : ((end .stop ≡ MaxSteps) × (length (H .exits) ≡ left)) ⊎ ((stepOf job (end .at) ≡ halts (end .stop)) × (length (H .exits) < left))
+          → Ends end
+      go (inl (q, l)) =
+          subst (λ (t : Stop). Ends (record { stop = t; at = end .at })) (sym q)
+          (at-the-limit (end .at) (onto (m .region) (H .exits) history) at counted (omega (arith, H .counted)))
+      go (inr (q, l)) =
+          below-the-limit (end .stop) (end .at) (onto (m .region) (H .exits) history) at counted (omega (arith, H .counted)) (step-halts job (end .at) q)
 
   -- region 0 is a node where the picture does not begin white
   entry-node : (getD (p .colours) 0 0 ≡ white → ⊥) → Node p map 0
@@ -253,10 +254,18 @@ module _ {p : Picture} {map rows exits : List ℕ} {n : ℕ} (S : Sound p) (B : 
       first-colour : getD (p .colours) 0 0 ≡ codelColour p 0
       first-colour = rw (zero-div (colsOf p), zero-mod (colsOf p), zero-mul (p .codel), zero-mul (p .width))
 
-  -- the run from the start follows the picture
-  pub follows : (getD (p .colours) 0 0 ≡ white → ⊥) → (limit : ℕ) → Ends limit (runOf job limit start)
-  follows W limit =
-      follows-from limit start [] limit starts refl (entry-node W) (some-region (first-in S)) (record { dp = omega arith; cc = omega arith }) (zero-add limit)
+  -- the start, where the picture does not begin white
+  pub stands-first : (getD (p .colours) 0 0 ≡ white → ⊥) → Stands [] start
+  stands-first W = record {
+    walk = starts;
+    node = entry-node W;
+    inside = some-region (first-in S);
+    valid = record { dp = omega arith; cc = omega arith };
+  }
     where
       some-region : 0 < codels p → 0 < n
       some-region h = omega (arith, B .regions .below 0 h)
+
+  -- the run from the start follows the picture
+  pub follows : (getD (p .colours) 0 0 ≡ white → ⊥) → Ends (ran job)
+  follows W = follows-from limit start [] (stands-first W) refl (zero-add limit)

@@ -13,7 +13,8 @@ use Rattle.flow.specs.Pointer.{Valid, attemptOf}
 use Rattle.flow.proofs.Order.{valid-attempt}
 use Rattle.machine.specs.declared.Stop.{Stop}
 use Rattle.machine.specs.declared.Stop.the-variants.{Completed, MaxSteps, NeedsInput, StackFull, OutputFull, BadInput}
-use Rattle.machine.specs.Machine.{Store, keeps, stops}
+use Rattle.machine.specs.Machine.{Given, RunRoom, Store, keeps, stops}
+use Rattle.machine.specs.Place.{Machine, End}
 use Rattle.picture.specs.Picture.{Picture, codels, Sound}
 use Rattle.picture.proofs.Codels.{cols-pos}
 use Rattle.region.specs.Grid.{gridOf}
@@ -21,9 +22,8 @@ use Rattle.region.specs.Region.{IsMap}
 use Rattle.region.proofs.MapLaws.{unique}
 use Rattle.exit.specs.Opens.{Opens}
 use Rattle.exit.proofs.Opening.{opens-only, reached}
-use Rattle.interpreter.specs.Run.{Machine, End}
 use Rattle.piet.specs.Moves.{FirstOpen, NoneOpen}
-use Rattle.piet.specs.Follows.{Given, Move, doing, Walk, starts, moves, Follows}
+use Rattle.piet.specs.Follows.{Move, doing, Walk, starts, moves, Follows}
 use Rattle.base.proofs.Clash.{clash}
 use Rattle.piet.proofs.Following.{keeps-valid}
 
@@ -42,24 +42,24 @@ reason StackFull = by-bar (λ h. clash (cc)) (λ h. clash (cc)) (λ h. clash (cc
 reason OutputFull = by-bar (λ h. clash (cc)) (λ h. clash (cc)) (λ h. clash (cc))
 reason BadInput = by-bar (λ h. clash (cc)) (λ h. clash (cc)) (λ h. clash (cc))
 
-module _ (p : Picture) (map : List ℕ) (g : Given) where
+module _ (p : Picture) (map : List ℕ) (g : Given) (room : RunRoom) where
   -- ---- a longer walk goes on from the end of a shorter one
 
   record Goes (length-before : ℕ) : Type 0 where
     history : List Move
     region : ℕ
     store : Store
-    walk : Walk p map g history region store
+    walk : Walk p map g room history region store
     counted : length history ≡ length-before
-    unawaited : store .awaiting ≡ false
+    unawaited : store .reading .awaiting ≡ false
     target : ℕ
     pointers : PointerState
     instruction : ℕ
     next : FirstOpen p map region (store .pointers) target pointers instruction
     then : Store
-    kept : doing p map g region pointers instruction store ≡ keeps then
+    kept : doing p map g room region pointers instruction store ≡ keeps then
 
-  passes : {h : List Move} {r : ℕ} {m : Store} (a : ℕ) → Walk p map g h r m → a < length h → Goes a
+  passes : {h : List Move} {r : ℕ} {m : Store} (a : ℕ) → Walk p map g room h r m → a < length h → Goes a
   passes a starts l = absurd (omega arith)
   passes a (moves {history = h} {r = r} {target = t} {i = i} {m = m} {m′ = n} {u = u} w f F k) l =
       by-cases (decLt a (length h)) (λ s. passes a w s) (λ s. record {
@@ -91,22 +91,22 @@ module _ {p : Picture} {map : List ℕ} (S : Sound p) (L : length map ≡ codels
       opens-only (cols-pos S) L (valid-attempt q (F .attempt) v) (F .opens)
       (subst (λ (k : ℕ). Opens p map r (attemptOf q k) t′ u′ i′) e (G .opens))
 
-  module _ (g : Given) where
+  module _ (g : Given) (room : RunRoom) where
     -- ---- walks of one length end alike
 
-    walk-valid : {h : List Move} {r : ℕ} {m : Store} → Walk p map g h r m → Valid (m .pointers)
+    walk-valid : {h : List Move} {r : ℕ} {m : Store} → Walk p map g room h r m → Valid (m .pointers)
     walk-valid starts = record { dp = omega arith; cc = omega arith }
     walk-valid (moves {r = r} {i = i} {m = m} {u = u} w f F k) =
-        keeps-valid p map g r u i m k (reached S L (valid-attempt (m .pointers) (F .attempt) (walk-valid w)) (F .opens) .lands .valid)
+        keeps-valid p map g room r u i m k (reached S L (valid-attempt (m .pointers) (F .attempt) (walk-valid w)) (F .opens) .lands .valid)
 
     -- from one place the next move is one, and comes to one thing
     move-only : {r t i r′ t′ i′ : ℕ} {m m′ : Store} {u u′ : PointerState} → Valid (m .pointers) → r ≡ r′ → m ≡ m′
         → FirstOpen p map r (m .pointers) t u i → FirstOpen p map r′ (m′ .pointers) t′ u′ i′
-        → (t ≡ t′) × (doing p map g r u i m ≡ doing p map g r′ u′ i′ m′)
+        → (t ≡ t′) × (doing p map g room r u i m ≡ doing p map g room r′ u′ i′ m′)
     move-only {r} {t} {i} {r′} {t′} {i′} {m} {m′} {u} {u′} v er em F F′ =
         let o = first-only v F (subst (λ (x : ℕ). FirstOpen p map x (m .pointers) t′ u′ i′) (sym er)
         (subst (λ (y : Store). FirstOpen p map r′ (y .pointers) t′ u′ i′) (sym em) F′)) in
-        (o .0, λ j. doing p map g (er j) (o .1 j) (o .2 j) (em j))
+        (o .0, λ j. doing p map g room (er j) (o .1 j) (o .2 j) (em j))
 
     -- none is open, and one is
     none-first : {r r′ t i : ℕ} {m m′ : Store} {u : PointerState} → r ≡ r′ → m ≡ m′ → NoneOpen p map r (m .pointers)
@@ -115,7 +115,7 @@ module _ {p : Picture} {map : List ℕ} (S : Sound p) (L : length map ≡ codels
         subst (λ (y : Store). NoneOpen p map r′ (y .pointers)) em (subst (λ (x : ℕ). NoneOpen p map x (m .pointers)) er N)
         .all (F .attempt) (F .few) .never _ _ _ (F .opens)
 
-    walk-only : {h h′ : List Move} {r r′ : ℕ} {m m′ : Store} → Walk p map g h r m → Walk p map g h′ r′ m′ → length h ≡ length h′
+    walk-only : {h h′ : List Move} {r r′ : ℕ} {m m′ : Store} → Walk p map g room h r m → Walk p map g room h′ r′ m′ → length h ≡ length h′
         → (r ≡ r′) × (m ≡ m′)
     walk-only starts starts e = (refl, refl)
     walk-only starts (moves w f F k) e = absurd (omega arith)
@@ -128,15 +128,15 @@ module _ {p : Picture} {map : List ℕ} (S : Sound p) (L : length map ≡ codels
 
     -- ---- and so neither of two ends comes before the other
 
-    not-earlier : {limit : ℕ} {e e′ : End} → Follows p map g limit e → Follows p map g limit e′ → e .at .steps < e′ .at .steps → ⊥
-    not-earlier {limit} {e} {e′} A B h =
-        let G = passes p map g (e .at .steps) (B .walk) (omega (arith, B .counted)) in
+    not-earlier : {e e′ : End} → Follows p map g room e → Follows p map g room e′ → e .at .steps < e′ .at .steps → ⊥
+    not-earlier {e} {e′} A B h =
+        let G = passes p map g room (e .at .steps) (B .walk) (omega (arith, B .counted)) in
         let o = walk-only (A .walk) (G .walk) (omega (arith, A .counted, G .counted)) in
         goes G (o .0) (o .1) (reason (e .stop))
       where
-        goes : (G : Goes p map g (e .at .steps)) → e .at .region ≡ G .region → e .at .store ≡ G .store → Reason (e .stop) → ⊥
+        goes : (G : Goes p map g room (e .at .steps)) → e .at .region ≡ G .region → e .at .store ≡ G .store → Reason (e .stop) → ⊥
         goes G er em (by-limit s) = omega (arith, A .limited .0 s, B .within)
-        goes G er em (by-waiting s) = true≢false (sym (A .awaited .0 s .1) ∙ ap (λ (m : Store). m .awaiting) em ∙ G .unawaited)
+        goes G er em (by-waiting s) = true≢false (sym (A .awaited .0 s .1) ∙ ap (λ (m : Store). m .reading .awaiting) em ∙ G .unawaited)
         goes G er em (by-end s) = none-first er em (A .completed .0 s .2) (G .next)
         goes G er em (by-bar x y z) =
             let R = A .barred x y z in
@@ -146,9 +146,9 @@ module _ {p : Picture} {map : List ℕ} (S : Sound p) (L : length map ≡ codels
 
     -- ---- nor stops for another reason
 
-    stop-only : {limit : ℕ} {s s′ : Stop} {at : Machine} → Follows p map g limit (record { stop = s; at = at })
-        → Follows p map g limit (record { stop = s′; at = at }) → s ≡ s′
-    stop-only {limit} {s} {s′} A B = go (reason s) (reason s′)
+    stop-only : {s s′ : Stop} {at : Machine} → Follows p map g room (record { stop = s; at = at })
+        → Follows p map g room (record { stop = s′; at = at }) → s ≡ s′
+    stop-only {s} {s′} A B = go (reason s) (reason s′)
       where
         go : Reason s → Reason s′ → s ≡ s′
         go (by-limit a) b = a ∙ sym (B .limited .1 (A .limited .0 a))
@@ -165,17 +165,17 @@ module _ {p : Picture} {map : List ℕ} (S : Sound p) (L : length map ≡ codels
             cc
 
     -- one numbering of the regions allows one end
-    pub follows-only : {limit : ℕ} {e e′ : End} → Follows p map g limit e → Follows p map g limit e′ → e ≡ e′
-    follows-only {limit} {e} {e′} A B =
+    pub follows-only : {e e′ : End} → Follows p map g room e → Follows p map g room e′ → e ≡ e′
+    follows-only {e} {e′} A B =
         let n : e .at .steps ≡ e′ .at .steps = omega (arith, not-earlier A B, not-earlier B A) in
         let o = walk-only (A .walk) (B .walk) (omega (arith, A .counted, B .counted)) in
         let m : e .at ≡ e′ .at = λ j. record { region = o .0 j; steps = n j; store = o .1 j } in
-        let s = stop-only A (subst (λ (x : Machine). Follows p map g limit (record { stop = e′ .stop; at = x })) (sym m) B) in
+        let s = stop-only A (subst (λ (x : Machine). Follows p map g room (record { stop = e′ .stop; at = x })) (sym m) B) in
         λ j. record { stop = s j; at = m j }
 
 -- the end of a run of a picture is settled: the numbering of the regions is the picture's own
 pub picture-only : {p : Picture} {map map′ : List ℕ} {n n′ : ℕ} → Sound p → length map ≡ codels p → length map′ ≡ codels p → IsMap (gridOf p) map n
-    → IsMap (gridOf p) map′ n′ → (g : Given) {limit : ℕ} {e e′ : End} → Follows p map g limit e → Follows p map′ g limit e′ → e ≡ e′
-picture-only {p} {map} {map′} {n} {n′} S l l′ M M′ g {limit} {e} {e′} A B =
+    → IsMap (gridOf p) map′ n′ → (g : Given) (room : RunRoom) {e e′ : End} → Follows p map g room e → Follows p map′ g room e′ → e ≡ e′
+picture-only {p} {map} {map′} {n} {n′} S l l′ M M′ g room {e} {e′} A B =
     let same : map ≡ map′ = ext-getD 0 map map′ (l ∙ sym l′) (λ k h. unique (gridOf p) map map′ n n′ M M′ .0 k (omega (arith, l))) in
-    follows-only S l g A (subst (λ (x : List ℕ). Follows p x g limit e′) (sym same) B)
+    follows-only S l g room A (subst (λ (x : List ℕ). Follows p x g room e′) (sym same) B)

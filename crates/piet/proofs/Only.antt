@@ -11,11 +11,12 @@ use Rattle.base.specs.Numbers.{Numbers, numbers, numberOf}
 use Rattle.base.proofs.Refusals as refusing
 use Rattle.cfg.specs.Build as building
 use Rattle.cfg.proofs.Refusing as table
-use Rattle.interpreter.specs.Run.{End}
+use Rattle.machine.specs.Place.{End}
+use Rattle.machine.specs.Held.{roomOf}
 use Rattle.interpreter.specs.Outcome.{slicesOf, endedOf}
 use Rattle.piet.specs.declared.run_picture.Pictured.{Pictured}
 use Rattle.piet.specs.declared.run_picture.Pictured.the-variants.{Finished, Refused}
-use Rattle.piet.specs.RunPicture.{Asked, Lends, askedPicture, refusalOf, numbered, given, RanPicture, Outcome, refused, done}
+use Rattle.piet.specs.RunPicture.{Asked, Lends, askedPicture, refusalOf, numbered, RanPicture, Outcome, refused, done}
 use Rattle.piet.proofs.Refusing.{accepted}
 use Rattle.piet.proofs.FollowsOnly.{picture-only}
 
@@ -41,7 +42,7 @@ run-picture-only {a} {l} (done {e = end} e R) (done {e = end′} e′ R′) =
     let T = table.outcome-only (building.done (A .builds) (R .table)) (building.done (A .builds) (R′ .table)) in
     let B = R .table .builds in
     let B′ = R′ .table .builds in
-    let z : end ≡ end′ = picture-only (S .sound) (B .map-long) (B′ .map-long) (B .regions) (B′ .regions) (given a (l .run)) (R .follows) (R′ .follows) in (
+    let z : end ≡ end′ = picture-only (S .sound) (B .map-long) (B′ .map-long) (B .regions) (B′ .regions) (a .given) (roomOf (l .run)) (R .follows) (R′ .follows) in (
       ap (λ (x : End). Finished (endedOf x)) z,
       same-lends (R .colours ∙ sym (R′ .colours)) (T .map-same) (T .rows-same) (T .exits-same) (T .work-same)
           (R .run ∙ ap (λ (x : End). slicesOf (l .run) (x .at .store)) z ∙ sym (R′ .run)),

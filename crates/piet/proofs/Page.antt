@@ -36,10 +36,10 @@ use Rattle.exit.proofs.Opening.{same-way}
 use Rattle.machine.specs.declared.Op.{Op}
 use Rattle.machine.specs.declared.Op.the-variants.{Nothing}
 use Rattle.machine.specs.declared.Stop.the-variants.{Completed}
-use Rattle.machine.specs.Machine.{Store, does, numbered, exec}
-use Rattle.interpreter.specs.Run.{start, End}
+use Rattle.machine.specs.Machine.{Given, RunRoom, Store, does, numbered, exec}
+use Rattle.machine.specs.Place.{start, End}
 use Rattle.piet.specs.Moves.{NoneOpen}
-use Rattle.piet.specs.Follows.{Given, Follows}
+use Rattle.piet.specs.Follows.{Follows}
 use Rattle.piet.specs.Page.{colours, line, column, commands, right, down, left, up, toLeft}
 use Rattle.base.proofs.Clash.{clash}
 
@@ -191,8 +191,8 @@ pub turning : (c : ℕ) → map (λ d. clockwise (record { dp = d; cc = c }) .dp
 turning c = refl
 
 -- "After eight failed attempts the program ends", while steps are left and no input is awaited
-pub ends-after-eight : {p : Picture} {map : List ℕ} {g : Given} {limit : ℕ} {e : End} → Follows p map g limit e → e .at .steps < limit
-    → e .at .store .awaiting ≡ false → NoneOpen p map (e .at .region) (e .at .store .pointers) → e .stop ≡ Completed
+pub ends-after-eight : {p : Picture} {map : List ℕ} {g : Given} {room : RunRoom} {e : End} → Follows p map g room e → e .at .steps < g .terms .limit
+    → e .at .store .reading .awaiting ≡ false → NoneOpen p map (e .at .region) (e .at .store .pointers) → e .stop ≡ Completed
 ends-after-eight F l a N = F .completed .1 (l, a, N)
 
 -- a slide goes on from a station at which it is not lost. White: "the interpreter slides through it in a straight line along
@@ -242,7 +242,7 @@ slide-lands {p} {rule} {past} {t} {r} {c} {r′} {c′} {s} {o} h e = (
 -- "Entering a coloured block from white executes nothing"
 pub enters-silently : {p : Picture} {map : List ℕ} {r a b c d target i : ℕ} {q u v : PointerState} → Sound p → length map ≡ codels p → Valid q
     → Tried p map r q (Glide a b c d u) → Opens p map r q target v i
-    → (mode : Bool) (input : List ℕ) (size : ℕ) (m : Store) → exec mode input size (numbered i) m ≡ does m
+    → (g : Given) (size : ℕ) (m : Store) → exec g size (numbered i) m ≡ does m
 unfolding exec
-enters-silently S L k t (beside x) mode input size m = let e = same-way (cols-pos S) L k t x in clash (cc)
-enters-silently S L k t (across x) mode input size m = refl
+enters-silently S L k t (beside x) g size m = let e = same-way (cols-pos S) L k t x in clash (cc)
+enters-silently S L k t (across x) g size m = refl

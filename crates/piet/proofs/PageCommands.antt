@@ -30,9 +30,9 @@ use Rattle.stack.specs.Instr as Instr
 use Rattle.machine.specs.declared.Op.{Op}
 use Rattle.machine.specs.declared.Op.the-variants.{Nothing, Push, Pop, Pair, Not, Ptr, Swi, Dup, Roll, CharIn, CharOut, IntIn, IntOut}
 use Rattle.machine.specs.Output.{Emit, ofTop, char}
-use Rattle.machine.specs.Machine.{Store, does, exec, fitting, turn, write, byTop, read, take, withStack, withPointers, withOuts, withUsed}
+use Rattle.machine.specs.Machine.{Given, RunRoom, Store, does, exec, fitting, turn, write, byTop, read, take, withStack, withPointers, withOuts, withUsed}
 use Rattle.base.proofs.Clash.{clash}
-use Rattle.piet.specs.Follows.{Given, doing}
+use Rattle.piet.specs.Follows.{doing}
 use Rattle.piet.specs.Page.{takes, Changes, InRange, times, anticlockwise}
 
 -- ---- what turning n times comes to
@@ -79,17 +79,17 @@ too-few Nothing s h = absurd (omega arith)
 too-few Push s h = absurd (omega arith)
 too-few CharIn s h = absurd (omega arith)
 too-few IntIn s h = absurd (omega arith)
-too-few Pop [] h = λ mode input size m. refl
-too-few (Pair o) [] h = λ mode input size m. refl
-too-few (Pair o) (a ∷ []) h = λ mode input size m. refl
-too-few Not [] h = λ mode input size m. refl
-too-few Ptr [] h = λ mode input size m. refl
-too-few Swi [] h = λ mode input size m. refl
-too-few Dup [] h = λ mode input size m. refl
-too-few Roll [] h = λ mode input size m. refl
-too-few Roll (a ∷ []) h = λ mode input size m. refl
-too-few CharOut [] h = λ mode input size m. ap (λ (es : List Emit). does (withStack [] (withOuts es m))) (append-nil (m .outs))
-too-few IntOut [] h = λ mode input size m. ap (λ (es : List Emit). does (withStack [] (withOuts es m))) (append-nil (m .outs))
+too-few Pop [] h = λ g size m. refl
+too-few (Pair o) [] h = λ g size m. refl
+too-few (Pair o) (a ∷ []) h = λ g size m. refl
+too-few Not [] h = λ g size m. refl
+too-few Ptr [] h = λ g size m. refl
+too-few Swi [] h = λ g size m. refl
+too-few Dup [] h = λ g size m. refl
+too-few Roll [] h = λ g size m. refl
+too-few Roll (a ∷ []) h = λ g size m. refl
+too-few CharOut [] h = λ g size m. ap (λ (es : List Emit). does (withStack [] (withOuts es m))) (append-nil (m .outs))
+too-few IntOut [] h = λ g size m. ap (λ (es : List Emit). does (withStack [] (withOuts es m))) (append-nil (m .outs))
 too-few Pop (a ∷ s) h = absurd (omega arith)
 too-few (Pair o) (a ∷ b ∷ s) h = absurd (omega arith)
 too-few Not (a ∷ s) h = absurd (omega arith)
@@ -101,24 +101,24 @@ too-few CharOut (a ∷ s) h = absurd (omega arith)
 too-few IntOut (a ∷ s) h = absurd (omega arith)
 
 -- "push: the number of codels of the block just left. pop: drops the top"
-pub push : (mode : Bool) (input : List ℕ) (size : ℕ) (s : List ℤ) (m : Store) → exec mode input size Push (withStack s m) ≡ does (withStack (pos size ∷ s) m)
+pub push : (g : Given) (size : ℕ) (s : List ℤ) (m : Store) → exec g size Push (withStack s m) ≡ does (withStack (pos size ∷ s) m)
 unfolding exec
-push mode input size s m = refl
+push g size s m = refl
 
-pub push-block : (p : Picture) (map : List ℕ) (g : Given) (r : ℕ) (u : PointerState) (m : Store)
-    → doing p map g r u instruction.push m
-    ≡ fitting (g .stackRoom) (g .outRoom) (does (withStack (pos (tally r (codels p) map) ∷ m .stack) (withPointers u m)))
+pub push-block : (p : Picture) (map : List ℕ) (g : Given) (room : RunRoom) (r : ℕ) (u : PointerState) (m : Store)
+    → doing p map g room r u instruction.push m
+    ≡ fitting room (does (withStack (pos (tally r (codels p) map) ∷ m .stack) (withPointers u m)))
 unfolding exec
-push-block p map g r u m = refl
+push-block p map g room r u m = refl
 
 pub pop : (a : ℤ) (s : List ℤ) → Changes Pop (a ∷ s) s
 unfolding exec Instr.pop
-pop a s mode input size m = refl
+pop a s g size m = refl
 
 -- a value that takes the place of two
 combines : (o : Pairing) (a b z : ℤ) (s : List ℤ) → Instr.combined o b a ≡ z ∷ [] → Changes (Pair o) (a ∷ b ∷ s) (z ∷ s)
 unfolding exec Instr.binary
-combines o a b z s e mode input size m = ap (λ (l : List ℤ). does (withStack (l ++ s) m)) e
+combines o a b z s e g size m = ap (λ (l : List ℤ). does (withStack (l ++ s) m)) e
 
 fits : (z : ℤ) → InRange z → wrap z ∷ [] ≡ z ∷ []
 fits z h = ap (λ (y : ℤ). y ∷ []) (wrap-fits z (record { sfits = h }))
@@ -190,62 +190,62 @@ modulo a b s h r = (
 -- "not: 0 becomes 1, anything else 0"
 pub not-zero : (s : List ℤ) → Changes Not (pos 0 ∷ s) (pos 1 ∷ s)
 unfolding exec Instr.not isZero
-not-zero s mode input size m = refl
+not-zero s g size m = refl
 
 pub not-else : (a : ℤ) (s : List ℤ) → (a ≡ pos 0 → ⊥) → Changes Not (a ∷ s) (pos 0 ∷ s)
 unfolding exec Instr.not
-not-else a s h mode input size m = ap (λ (t : Bool). does (withStack (Instr.bit t ∷ s) m)) (is-not-zero a h)
+not-else a s h g size m = ap (λ (t : Bool). does (withStack (Instr.bit t ∷ s) m)) (is-not-zero a h)
 
 -- "pointer: pops n, DP turns clockwise n times (anticlockwise if n is negative)"
-pub pointer : (mode : Bool) (input : List ℕ) (size n : ℕ) (s : List ℤ) (m : Store) → Valid (m .pointers)
-    → exec mode input size Ptr (withStack (pos n ∷ s) m) ≡ does (withStack s (withPointers (times n clockwise (m .pointers)) m))
+pub pointer : (g : Given) (size n : ℕ) (s : List ℤ) (m : Store) → Valid (m .pointers)
+    → exec g size Ptr (withStack (pos n ∷ s) m) ≡ does (withStack s (withPointers (times n clockwise (m .pointers)) m))
 unfolding exec turn byTop Instr.pop
-pointer mode input size n s m v = ap (λ (q : PointerState). does (withStack s (withPointers q m))) (sym (clockwise-times n (m .pointers) v))
+pointer g size n s m v = ap (λ (q : PointerState). does (withStack s (withPointers q m))) (sym (clockwise-times n (m .pointers) v))
 
-pub pointer-back : (mode : Bool) (input : List ℕ) (size n : ℕ) (s : List ℤ) (m : Store) → Valid (m .pointers)
-    → exec mode input size Ptr (withStack (negsuc n ∷ s) m) ≡ does (withStack s (withPointers (times (suc n) anticlockwise (m .pointers)) m))
+pub pointer-back : (g : Given) (size n : ℕ) (s : List ℤ) (m : Store) → Valid (m .pointers)
+    → exec g size Ptr (withStack (negsuc n ∷ s) m) ≡ does (withStack s (withPointers (times (suc n) anticlockwise (m .pointers)) m))
 unfolding exec turn byTop Instr.pop
-pointer-back mode input size n s m v = ap (λ (q : PointerState). does (withStack s (withPointers q m))) (sym (anticlockwise-times n (m .pointers) v))
+pointer-back g size n s m v = ap (λ (q : PointerState). does (withStack s (withPointers q m))) (sym (anticlockwise-times n (m .pointers) v))
 
 -- "switch: pops n, CC flips |n| times"
-pub switch : (mode : Bool) (input : List ℕ) (size : ℕ) (n : ℤ) (s : List ℤ) (m : Store) → Valid (m .pointers)
-    → exec mode input size Swi (withStack (n ∷ s) m) ≡ does (withStack s (withPointers (times (natAbs n) flipped (m .pointers)) m))
+pub switch : (g : Given) (size : ℕ) (n : ℤ) (s : List ℤ) (m : Store) → Valid (m .pointers)
+    → exec g size Swi (withStack (n ∷ s) m) ≡ does (withStack s (withPointers (times (natAbs n) flipped (m .pointers)) m))
 unfolding exec turn byTop Instr.pop
-switch mode input size n s m v = ap (λ (q : PointerState). does (withStack s (withPointers q m))) (sym (flipped-times n (m .pointers) v))
+switch g size n s m v = ap (λ (q : PointerState). does (withStack s (withPointers q m))) (sym (flipped-times n (m .pointers) v))
 
 -- "duplicate: a second copy of the top"
 pub duplicate : (a : ℤ) (s : List ℤ) → Changes Dup (a ∷ s) (a ∷ a ∷ s)
 unfolding exec Instr.dup
-duplicate a s mode input size m = refl
+duplicate a s g size m = refl
 
 -- "out: pops the top and writes it as a number or as a character"
-pub out-number : (mode : Bool) (input : List ℕ) (size : ℕ) (a : ℤ) (s : List ℤ) (m : Store)
-    → exec mode input size IntOut (withStack (a ∷ s) m) ≡ does (withStack s (withOuts (m .outs ++ (record { kind = 2; value = a } ∷ [])) m))
+pub out-number : (g : Given) (size : ℕ) (a : ℤ) (s : List ℤ) (m : Store)
+    → exec g size IntOut (withStack (a ∷ s) m) ≡ does (withStack s (withOuts (m .outs ++ (record { kind = 2; value = a } ∷ [])) m))
 unfolding exec write ofTop Instr.pop
-out-number mode input size a s m = refl
+out-number g size a s m = refl
 
-pub out-character : (mode : Bool) (input : List ℕ) (size u : ℕ) (s : List ℤ) (m : Store) → scalar u ≡ true
-    → exec mode input size CharOut (withStack (pos u ∷ s) m) ≡ does (withStack s (withOuts (m .outs ++ (record { kind = 1; value = pos u } ∷ [])) m))
+pub out-character : (g : Given) (size u : ℕ) (s : List ℤ) (m : Store) → scalar u ≡ true
+    → exec g size CharOut (withStack (pos u ∷ s) m) ≡ does (withStack s (withOuts (m .outs ++ (record { kind = 1; value = pos u } ∷ [])) m))
 unfolding exec write ofTop Instr.pop char residue
-out-character mode input size u s m h = rw (mod-eq-of-lt {n = u} {m = 2 ^ 32} (omega (arith, scalar-small u h)), h)
+out-character g size u s m h = rw (mod-eq-of-lt {n = u} {m = 2 ^ 32} (omega (arith, scalar-small u h)), h)
 
 -- "in: reads a number or a character and pushes it; where what is read is no number, the command is ignored": ours reads a line
 -- (docs/DIFFERENCES.md), and pushes what it gives or leaves the stack
-module _ (input : List ℕ) (size : ℕ) (m : Store) where
-  pub in-number : (v : ℤ) (n : ℕ) → takeOf intOf input (m .used) ≡ Line.Push v n
-      → exec false input size IntIn m ≡ does (withUsed n (withStack (v ∷ m .stack) m))
+module _ (g : Given) (reads : g .terms .«abstract_mode» ≡ false) (size : ℕ) (m : Store) where
+  pub in-number : (v : ℤ) (n : ℕ) → takeOf intOf (g .input) (m .reading .used) ≡ Line.Push v n
+      → exec g size IntIn m ≡ does (withUsed n (withStack (v ∷ m .stack) m))
   unfolding exec read take
-  in-number v n h = rw h
+  in-number v n h = rw (reads, h)
 
-  pub in-character : (v : ℤ) (n : ℕ) → takeOf charOf input (m .used) ≡ Line.Push v n
-      → exec false input size CharIn m ≡ does (withUsed n (withStack (v ∷ m .stack) m))
+  pub in-character : (v : ℤ) (n : ℕ) → takeOf charOf (g .input) (m .reading .used) ≡ Line.Push v n
+      → exec g size CharIn m ≡ does (withUsed n (withStack (v ∷ m .stack) m))
   unfolding exec read take
-  in-character v n h = rw h
+  in-character v n h = rw (reads, h)
 
-  pub no-number : (n : ℕ) → takeOf intOf input (m .used) ≡ Line.Skip n → exec false input size IntIn m ≡ does (withUsed n m)
+  pub no-number : (n : ℕ) → takeOf intOf (g .input) (m .reading .used) ≡ Line.Skip n → exec g size IntIn m ≡ does (withUsed n m)
   unfolding exec read take
-  no-number n h = rw h
+  no-number n h = rw (reads, h)
 
-  pub no-character : (n : ℕ) → takeOf charOf input (m .used) ≡ Line.Skip n → exec false input size CharIn m ≡ does (withUsed n m)
+  pub no-character : (n : ℕ) → takeOf charOf (g .input) (m .reading .used) ≡ Line.Skip n → exec g size CharIn m ≡ does (withUsed n m)
   unfolding exec read take
-  no-character n h = rw h
+  no-character n h = rw (reads, h)

@@ -71,12 +71,12 @@ module _ (n : ℕ) (s : List ℤ) (some : 0 < n) (fits : n ≤ length s) where
 
   rolls : (a : ℤ) → Changes Roll (a ∷ pos n ∷ s) (Instr.turn n (residue a n) s)
   unfolding exec Instr.roll Instr.places Instr.rolled
-  rolls a mode input size m = rw (le-ltb (length s) n fits, ne-eqb n 0 (λ e. omega arith))
+  rolls a g size m = rw (le-ltb (length s) n fits, ne-eqb n 0 (λ e. omega arith))
 
   -- a rolls to depth n
   pub roll : (a : ℕ) → Changes Roll (pos a ∷ pos n ∷ s) (times a (bury n) s)
   unfolding residue
-  roll a mode input size m = rolls (pos a) mode input size m ∙ ap (λ (l : List ℤ). does (withStack l m)) same
+  roll a g size m = rolls (pos a) g size m ∙ ap (λ (l : List ℤ). does (withStack l m)) same
     where
       same : Instr.turn n (a % n) s ≡ times a (bury n) s
       same = sym (ap (times a (bury n)) (sym turned-none) ∙ rolled-times a 0 some ∙ ap (λ (i : ℕ). Instr.turn n (i % n) s) (zero-add a))
@@ -99,4 +99,4 @@ module _ (n : ℕ) (s : List ℤ) (some : 0 < n) (fits : n ≤ length s) where
 -- a roll to depth 0: both values go, and nothing moves
 pub roll-none : (a : ℤ) (s : List ℤ) → Changes Roll (a ∷ pos 0 ∷ s) s
 unfolding exec Instr.roll Instr.places Instr.rolled
-roll-none a s mode input size m = rw (le-ltb (length s) 0 (omega arith))
+roll-none a s g size m = rw (le-ltb (length s) 0 (omega arith))

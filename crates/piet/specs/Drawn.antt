@@ -1,26 +1,32 @@
 -- What building and running leave, one after the other, of colours that building does not refuse. Assumes nothing.
 use mathlib.Core.Path.{_≡_}
-use mathlib.Core.Bool.{Bool}
 use mathlib.Core.List.{List}
 use Prim.Native.Nat.{ℕ}
 use Rattle.picture.specs.Picture.{picture}
 use Rattle.cfg.specs.declared.building.Built.the-variants.{Done}
 use Rattle.cfg.specs.Build as building
+use Rattle.machine.specs.Machine.{Given}
+use Rattle.machine.specs.Held.{Slices}
 use Rattle.interpreter.specs.declared.Ran.{Ran}
 use Rattle.interpreter.specs.declared.Ran.the-variants as Ran
-use Rattle.interpreter.specs.Outcome.{outcome, outcomeOf}
+use Rattle.interpreter.specs.Outcome as running
 use Rattle.piet.specs.declared.run_picture.Pictured.{Pictured}
 use Rattle.piet.specs.declared.run_picture.Pictured.the-variants.{Finished, Refused}
 use Rattle.piet.specs.RunPicture.{Lends}
 
--- the answer as that of the run
-abbrev pub ranOf : Pictured → Ran
-ranOf (Finished e) = Ran.Finished e
-ranOf (Refused number row column) = Ran.Refused
+-- the answer of a run as that of a picture: a refusal has its number and no place
+abbrev pub picturedOf : Ran → Pictured
+picturedOf (Ran.Finished e) = Finished e
+picturedOf (Ran.Refused number) = Refused number 0 0
 
-pub record Draws (height width codel limit : ℕ) (mode : Bool) (input : List ℕ) (l : Lends) (r : Pictured) (l′ : Lends) : Type 0 where
+-- what the run of a table answers and leaves
+pub record Runs (n : ℕ) (rows exits : List ℕ) (g : Given) (l : Slices) (r : Pictured) (l′ : Slices) : Type 0 where
+  pub ran : Ran
+  pub is : r ≡ picturedOf ran
+  pub outcome : running.Outcome n rows exits g l ran l′
+
+pub record Draws (height width codel : ℕ) (g : Given) (l : Lends) (r : Pictured) (l′ : Lends) : Type 0 where
   pub regions : ℕ
   pub built : building.Outcome (picture height width codel (l .colours)) (l .map) (l .rows) (l .exits) (l .work) (Done regions)
       (l′ .map) (l′ .rows) (l′ .exits) (l′ .work)
-  pub ran : outcome (ranOf r) (l′ .run .stack) (l′ .run .kinds) (l′ .run .values)
-      ≡ outcomeOf regions (l′ .rows) (l′ .exits) limit mode input (l .run)
+  pub runs : Runs regions (l′ .rows) (l′ .exits) g (l .run) r (l′ .run)

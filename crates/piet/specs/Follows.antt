@@ -1,7 +1,7 @@
 -- Demand 3: the history of moves that a run of a picture makes, and what its result says of it. Nothing here speaks of
 -- rows, exits or an exit number. Assumes nothing.
 use mathlib.Core.Path.{_≡_}
-use mathlib.Core.Bool.{Bool, true, false}
+use mathlib.Core.Bool.{true, false}
 use mathlib.Core.List.{List, [], _∷_}
 use mathlib.Core.Logic.{_↔_}
 use Prim.Native.Nat.{ℕ, _<_, _≤_}
@@ -9,18 +9,11 @@ use lib.ListN.{length}
 use Rattle.flow.specs.declared.PointerState.{PointerState}
 use Rattle.machine.specs.declared.Stop.{Stop}
 use Rattle.machine.specs.declared.Stop.the-variants.{Completed, MaxSteps, NeedsInput}
-use Rattle.machine.specs.Machine.{Store, Out, keeps, stops, numbered, exec, withPointers, fitting}
+use Rattle.machine.specs.Machine.{Given, RunRoom, Store, Out, keeps, stops, numbered, exec, withPointers, fitting}
+use Rattle.machine.specs.Place.{start, End}
 use Rattle.piet.specs.Moves.{FirstOpen, NoneOpen}
 use Rattle.picture.specs.Picture.{Picture, codels}
 use Rattle.region.specs.Tally.{tally}
-use Rattle.interpreter.specs.Run.{start, End}
-
--- what a run of a picture is given besides: the mode, the input, and the room of the stack and of the outputs
-pub record Given : Type 0 where
-  pub mode : Bool
-  pub input : List ℕ
-  pub stackRoom : ℕ
-  pub outRoom : ℕ
 
 -- one move: the region left, the region reached, the pointers that the way gives, and the instruction
 pub record Move : Type 0 where
@@ -29,11 +22,11 @@ pub record Move : Type 0 where
   pub pointers : PointerState
   pub instruction : ℕ
 
-module _ (p : Picture) (map : List ℕ) (g : Given) where
+module _ (p : Picture) (map : List ℕ) (g : Given) (room : RunRoom) where
   -- what the instruction of a move from region r comes to: it is executed "with the size of the block just left", and kept
   -- where there is room
   abbrev pub doing : ℕ → PointerState → ℕ → Store → Out
-  doing r u i m = fitting (g .stackRoom) (g .outRoom) (exec (g .mode) (g .input) (tally r (codels p) map) (numbered i) (withPointers u m))
+  doing r u i m = fitting room (exec g (tally r (codels p) map) (numbered i) (withPointers u m))
 
   -- `Walk history r m`: after these moves, the latest first, the run stands at region r with the store m. It starts at
   -- region 0 with dp right and cc left and nothing else; each move is the first open one of the eight attempts from the
@@ -41,7 +34,7 @@ module _ (p : Picture) (map : List ℕ) (g : Given) where
   pub data Walk : List Move → ℕ → Store → Type 0 where
     starts : Walk [] 0 (start .store)
     moves : {history : List Move} {r target i : ℕ} {m m′ : Store} {u : PointerState} → Walk history r m
-        → m .awaiting ≡ false
+        → m .reading .awaiting ≡ false
         → FirstOpen p map r (m .pointers) target u i
         → doing r u i m ≡ keeps m′
         → Walk (record { from = r; to = target; pointers = u; instruction = i } ∷ history) target m′
@@ -54,18 +47,21 @@ module _ (p : Picture) (map : List ℕ) (g : Given) where
     pub next : FirstOpen p map r (m .pointers) target pointers instruction
     pub unkept : doing r pointers instruction m ≡ stops s
 
-  -- A run of a picture under a limit ends in e: there is a history that leads to the region and the store reported, its
+  abbrev limit : ℕ
+  limit = g .terms .limit
+
+  -- A run of a picture under its limit ends in e: there is a history that leads to the region and the store reported, its
   -- pointers included; its length is the steps reported; and it stops for the reason reported and for no other: "steps
   -- equal to the limit, status 2"; "in abstract mode after an input instruction, 3"; "no open attempt, 1"; else the next
   -- move can't be kept.
-  pub record Follows (limit : ℕ) (e : End) : Type 0 where
+  pub record Follows (e : End) : Type 0 where
     pub history : List Move
     pub walk : Walk history (e .at .region) (e .at .store)
     pub counted : e .at .steps ≡ length history
     pub within : e .at .steps ≤ limit
     pub limited : (e .stop ≡ MaxSteps) ↔ (e .at .steps ≡ limit)
-    pub awaited : (e .stop ≡ NeedsInput) ↔ ((e .at .steps < limit) × (e .at .store .awaiting ≡ true))
+    pub awaited : (e .stop ≡ NeedsInput) ↔ ((e .at .steps < limit) × (e .at .store .reading .awaiting ≡ true))
     pub completed : (e .stop ≡ Completed)
-        ↔ ((e .at .steps < limit) × (e .at .store .awaiting ≡ false) × NoneOpen p map (e .at .region) (e .at .store .pointers))
+        ↔ ((e .at .steps < limit) × (e .at .store .reading .awaiting ≡ false) × NoneOpen p map (e .at .region) (e .at .store .pointers))
     pub barred : (e .stop ≡ MaxSteps → ⊥) → (e .stop ≡ NeedsInput → ⊥) → (e .stop ≡ Completed → ⊥)
         → Barred (e .at .region) (e .at .store) (e .stop)

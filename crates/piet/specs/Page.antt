@@ -1,7 +1,6 @@
 -- The public page's tables and commands, in its words: what proof Page and proof PageCommands compare our definitions with.
 -- Assumes nothing.
 use mathlib.Core.Path.{_≡_}
-use mathlib.Core.Bool.{Bool}
 use mathlib.Core.List.{List, [], _∷_, _++_}
 use Prim.Native.Nat.{ℕ, zero, suc, _+_, _-_, _/_, _%_, _^_, _<_}
 use lib.ListN.{take, drop}
@@ -12,7 +11,7 @@ use Rattle.flow.specs.declared.PointerState.{PointerState}
 use Rattle.stack.specs.declared.Pairing.the-variants.{Add, Sub, Mul, Div, Mod, Gt}
 use Rattle.machine.specs.declared.Op.{Op}
 use Rattle.machine.specs.declared.Op.the-variants.{Nothing, Push, Pop, Pair, Not, Ptr, Swi, Dup, Roll, CharIn, CharOut, IntIn, IntOut}
-use Rattle.machine.specs.Machine.{Store, does, exec, withStack}
+use Rattle.machine.specs.Machine.{Given, Store, does, exec, withStack}
 
 -- ---- colours
 
@@ -68,7 +67,7 @@ takes IntOut = 1
 
 -- a command makes the stack s′ of the stack s, top first, and changes nothing else
 abbrev pub Changes : Op → List ℤ → List ℤ → Type 0
-Changes o s s′ = (mode : Bool) (input : List ℕ) (size : ℕ) (m : Store) → exec mode input size o (withStack s m) ≡ does (withStack s′ m)
+Changes o s s′ = (g : Given) (size : ℕ) (m : Store) → exec g size o (withStack s m) ≡ does (withStack s′ m)
 
 -- "a finite maximum is allowed": the numbers of 64 bits, -2^63 to 2^63 - 1
 abbrev pub InRange : ℤ → Type 0

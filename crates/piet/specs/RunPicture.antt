@@ -1,6 +1,5 @@
 -- From pixels to a run's result, over lent room. Assumes nothing.
 use mathlib.Core.Path.{_≡_}
-use mathlib.Core.Bool.{Bool}
 use mathlib.Core.List.{List, [], _∷_, _++_}
 use Prim.Native.Nat.{ℕ, suc, _<_}
 use lib.ListN.{length, take}
@@ -12,13 +11,14 @@ use Rattle.colour.specs.Classify as classifying
 use Rattle.colour.specs.Classify.{coloursUnder}
 use Rattle.cfg.specs.Build as building
 use Rattle.cfg.specs.Build.{Written}
+use Rattle.machine.specs.Machine.{Given}
+use Rattle.machine.specs.Place.{End}
 use Rattle.machine.specs.Held as held
-use Rattle.machine.specs.Held.{Slices, stackRoom, outRoom}
-use Rattle.interpreter.specs.Run.{End}
+use Rattle.machine.specs.Held.{Slices, roomOf}
 use Rattle.interpreter.specs.Outcome.{slicesOf, endedOf, resultOf}
 use Rattle.piet.specs.declared.run_picture.Pictured.{Pictured}
 use Rattle.piet.specs.declared.run_picture.Pictured.the-variants.{Finished, Refused}
-use Rattle.piet.specs.Follows.{Given, Follows}
+use Rattle.piet.specs.Follows.{Follows}
 
 -- what a call is given, besides what it is lent
 pub record Asked : Type 0 where
@@ -27,9 +27,7 @@ pub record Asked : Type 0 where
   pub width : ℕ
   pub setting : ℕ
   pub codel : ℕ
-  pub limit : ℕ
-  pub mode : Bool
-  pub input : List ℕ
+  pub given : Given
 
 -- what it is lent: the room of the colours, of the table and of the run
 pub record Lends : Type 0 where
@@ -61,17 +59,13 @@ abbrev pub numbered : Pictured → Numbers
 numbered (Refused number row column) = numbers number (row ∷ column ∷ [])
 numbered (Finished e) = numbers 0 (resultOf e)
 
--- what the run is given
-abbrev pub given : Asked → Slices → Given
-given a l = record { mode = a .mode; input = a .input; stackRoom = stackRoom l; outRoom = outRoom l }
-
 -- what a call leaves that is not refused, where the run ends in e. Demand 3 is `follows`: the run is that of the picture,
 -- its regions numbered in the map by their first codels.
 pub record RanPicture (a : Asked) (l l′ : Lends) (e : End) : Type 0 where
   pub colours : l′ .colours ≡ lent (coloursUnder (a .pixels) (a .setting)) (l .colours)
   pub regions : ℕ
   pub table : Written (askedPicture a) (l .map) (l .rows) (l .exits) (l .work) (l′ .map) (l′ .rows) (l′ .exits) (l′ .work) regions
-  pub follows : Follows (askedPicture a) (take (codels (askedPicture a)) (l′ .map)) (given a (l .run)) (a .limit) e
+  pub follows : Follows (askedPicture a) (take (codels (askedPicture a)) (l′ .map)) (a .given) (roomOf (l .run)) e
   pub inside : e .at .region < regions
   pub run : l′ .run ≡ slicesOf (l .run) (e .at .store)
 
@@ -81,9 +75,9 @@ pub data Outcome (a : Asked) (l : Lends) : Pictured → Lends → Type 0 where
   done : {e : End} {l′ : Lends} → refusalOf a l ≡ numbers 0 (0 ∷ 0 ∷ []) → RanPicture a l l′ e → Outcome a l (Finished (endedOf e)) l′
 
 -- the arguments of a call, in their order
-abbrev pub asked : List ℕ → ℕ → ℕ → ℕ → ℕ → ℕ → Bool → List ℕ → Asked
-asked pixels height width setting codel limit mode input =
-    record { pixels = pixels; height = height; width = width; setting = setting; codel = codel; limit = limit; mode = mode; input = input }
+abbrev pub asked : List ℕ → ℕ → ℕ → ℕ → ℕ → Given → Asked
+asked pixels height width setting codel given =
+    record { pixels = pixels; height = height; width = width; setting = setting; codel = codel; given = given }
 
 abbrev pub lends : List ℕ → List ℕ → List ℕ → List ℕ → List ℕ → List ℤ → List ℕ → List ℤ → Lends
 lends colours map rows exits work stack kinds values =

@@ -1,18 +1,18 @@
-// From pixels to a run's result, over slices room: classifying, building and running, one after the other.
+// From pixels to a run's result, over lent room: classifying, building and running, one after the other.
 ghost use mathlib.Core.Path.{_≡_};
-ghost use mathlib.Core.Bool.{Bool, false};
-ghost use mathlib.Core.List.{List, [], _∷_};
-ghost use Prim.Native.Nat.{ℕ, _*_, _<_};
+ghost use mathlib.Core.Bool.{false};
+ghost use mathlib.Core.List.{[], _∷_};
+ghost use Prim.Native.Nat.{_*_, _<_};
 ghost use lib.ListN.{length, getD};
 ghost use Rattle.base.specs.Numbers.{numbers};
 ghost use Rattle.base.specs.Limits.{wrongSide};
 ghost use Rattle.picture.specs.Picture.{picture};
 ghost use Rattle.colour.specs.Classify.{coloursUnder};
 ghost use Rattle.cfg.specs.Build as building;
+ghost use Rattle.machine.specs.Machine.{Given, given};
 ghost use Rattle.machine.specs.Held.{slices};
-ghost use Rattle.interpreter.specs.Outcome.{outcome, outcomeOf};
 ghost use Rattle.piet.specs.RunPicture.{Outcome, asked, lends, refusal};
-ghost use Rattle.piet.specs.Drawn.{ranOf, Draws};
+ghost use Rattle.piet.specs.Drawn.{Runs, Draws};
 use base::limits::wrong_side;
 use cfg::Built;
 use cfg::codel_count;
@@ -25,6 +25,7 @@ use colour::classify::placeless;
 use colour::palette::WHITE;
 use interpreter::Ended;
 use interpreter::Ran;
+use machine::Terms;
 
 // What a call answers: where the run stopped, or a refusal with the place of an unknown pixel.
 pub enum Pictured {
@@ -46,7 +47,7 @@ fn first_colour(pixels: &[u8], setting: u8) -> u8
 }
 
 // Building's tests in document 01's order, where classifying refuses nothing: the pixels are then as many as they should
-// be and their colours at most 19. The slices slices are given by their lengths.
+// be and their colours at most 19. The lent slices are given by their lengths.
 fn check_table(
     pixels: &[u8],
     height: usize,
@@ -93,7 +94,7 @@ fn check(
     exits: usize,
     work: usize,
 ) -> Told
-    ensures { λ r. ⌜ ((limit : ℕ) (mode : Bool) (input : List ℕ) → numbers (r .number) (r .row ∷ r .column ∷ []) ≡ refusal (asked (now (pixels .entry)) height width setting codel limit mode input) colours map rows exits work) ⌝ }
+    ensures { λ r. ⌜ ((g : Given) → numbers (r .number) (r .row ∷ r .column ∷ []) ≡ refusal (asked (now (pixels .entry)) height width setting codel g) colours map rows exits work) ⌝ }
 {
     let answer = colour::classify::check(pixels, height, width, setting, colours);
     let tested = in_numbers(answer);
@@ -118,29 +119,18 @@ fn run_table(
     n: usize,
     rows: &[u32],
     exits: &[u32],
-    limit: u64,
-    abstract_mode: bool,
+    terms: Terms,
     input: &[u8],
     stack: &mut [i64],
     kinds: &mut [u8],
     values: &mut [i64],
 ) -> Pictured
-    ensures { λ r. ⌜ outcome (ranOf r) (now (stack .exit)) (now (kinds .exit)) (now (values .exit)) ≡ outcomeOf n (now (rows .entry)) (now (exits .entry)) limit «abstract_mode» (now (input .entry)) (slices (now (stack .entry)) (now (kinds .entry)) (now (values .entry))) ⌝ }
+    ensures { λ r. ⌜ Runs n (now (rows .entry)) (now (exits .entry)) (given terms (now (input .entry))) (slices (now (stack .entry)) (now (kinds .entry)) (now (values .entry))) r (slices (now (stack .exit)) (now (kinds .exit)) (now (values .exit))) ⌝ }
 {
-    match interpreter::run(
-        n,
-        rows,
-        exits,
-        limit,
-        abstract_mode,
-        input,
-        stack,
-        kinds,
-        values,
-    ) {
+    match interpreter::run(n, rows, exits, terms, input, stack, kinds, values) {
         Ran::Finished(e) => Pictured::Finished(e),
-        Ran::Refused => Pictured::Refused {
-            number: 10,
+        Ran::Refused(number) => Pictured::Refused {
+            number,
             row: 0,
             column: 0,
         },
@@ -153,8 +143,7 @@ fn run_colours(
     height: usize,
     width: usize,
     codel: usize,
-    limit: u64,
-    abstract_mode: bool,
+    terms: Terms,
     input: &[u8],
     map: &mut [u32],
     rows: &mut [u32],
@@ -165,21 +154,11 @@ fn run_colours(
     values: &mut [i64],
 ) -> Pictured
     requires { ⌜ building.refusal (picture height width codel (now colours)) (length (now map)) (length (now rows)) (length (now exits)) (length (now work)) ≡ numbers 0 (0 ∷ 0 ∷ []) ⌝ }
-    ensures { λ r. ⌜ Draws height width codel limit «abstract_mode» (now (input .entry)) (lends (now (colours .entry)) (now (map .entry)) (now (rows .entry)) (now (exits .entry)) (now (work .entry)) (now (stack .entry)) (now (kinds .entry)) (now (values .entry))) r (lends (now (colours .entry)) (now (map .exit)) (now (rows .exit)) (now (exits .exit)) (now (work .exit)) (now (stack .exit)) (now (kinds .exit)) (now (values .exit))) ⌝ }
+    ensures { λ r. ⌜ Draws height width codel (given terms (now (input .entry))) (lends (now (colours .entry)) (now (map .entry)) (now (rows .entry)) (now (exits .entry)) (now (work .entry)) (now (stack .entry)) (now (kinds .entry)) (now (values .entry))) r (lends (now (colours .entry)) (now (map .exit)) (now (rows .exit)) (now (exits .exit)) (now (work .exit)) (now (stack .exit)) (now (kinds .exit)) (now (values .exit))) ⌝ }
 {
     let built = cfg::build(colours, height, width, codel, map, rows, exits, work);
     if let Built::Done { regions } = built {
-        return run_table(
-            regions,
-            rows,
-            exits,
-            limit,
-            abstract_mode,
-            input,
-            stack,
-            kinds,
-            values,
-        );
+        return run_table(regions, rows, exits, terms, input, stack, kinds, values);
     }
     // never reached: what building refuses is not passed on
     Pictured::Refused {
@@ -189,7 +168,7 @@ fn run_colours(
     }
 }
 
-// The run of a picture of pixels: its colours, its table and the run's stack and outputs stand in the slices slices. Where
+// The run of a picture of pixels: its colours, its table and the run's stack and outputs stand in the lent slices. Where
 // the call is refused, no slice is changed.
 pub fn run_picture(
     pixels: &[u8],
@@ -197,8 +176,7 @@ pub fn run_picture(
     width: usize,
     setting: u8,
     codel: usize,
-    limit: u64,
-    abstract_mode: bool,
+    terms: Terms,
     input: &[u8],
     colours: &mut [u8],
     map: &mut [u32],
@@ -209,7 +187,7 @@ pub fn run_picture(
     kinds: &mut [u8],
     values: &mut [i64],
 ) -> Pictured
-    ensures { λ r. ⌜ Outcome (asked (now (pixels .entry)) height width setting codel limit «abstract_mode» (now (input .entry))) (lends (now (colours .entry)) (now (map .entry)) (now (rows .entry)) (now (exits .entry)) (now (work .entry)) (now (stack .entry)) (now (kinds .entry)) (now (values .entry))) r (lends (now (colours .exit)) (now (map .exit)) (now (rows .exit)) (now (exits .exit)) (now (work .exit)) (now (stack .exit)) (now (kinds .exit)) (now (values .exit))) ⌝ }
+    ensures { λ r. ⌜ Outcome (asked (now (pixels .entry)) height width setting codel (given terms (now (input .entry)))) (lends (now (colours .entry)) (now (map .entry)) (now (rows .entry)) (now (exits .entry)) (now (work .entry)) (now (stack .entry)) (now (kinds .entry)) (now (values .entry))) r (lends (now (colours .exit)) (now (map .exit)) (now (rows .exit)) (now (exits .exit)) (now (work .exit)) (now (stack .exit)) (now (kinds .exit)) (now (values .exit))) ⌝ }
 {
     let refusal = check(
         pixels,
@@ -237,8 +215,7 @@ pub fn run_picture(
         height,
         width,
         codel,
-        limit,
-        abstract_mode,
+        terms,
         input,
         map,
         rows,

@@ -1,14 +1,13 @@
 -- Two outcomes that a call from C may have for one input are one, where what the call makes is. Assumes nothing.
-use mathlib.Core.Bool.{Bool}
 use mathlib.Core.Path.{_≡_, refl, ap, sym, _∙_}
 use mathlib.Core.List.{List}
 use Prim.Native.Nat.{ℕ, _<_, _≤_}
 use native.Mathlib.Omega.{arith}
 use Rattle.base.specs.Lent.{lent}
 use Rattle.base.specs.Numbers.{Numbers, numberOf, valuesOf}
+use Rattle.machine.specs.Machine.{Given}
 use Rattle.machine.specs.Held.{Slices}
 use Rattle.interpreter.specs.Outcome as running
-use Rattle.interpreter.specs.Forever as always
 use Rattle.interpreter.proofs.Only.{run-only}
 use Rattle.piet_c.specs.Exported.{Exported, short, made}
 use Rattle.piet_c.specs.Calls.{ClassifyCall, LabelCall, BuildCall, TableRoom, RunCall, ForeverCall}
@@ -54,13 +53,10 @@ builds p s n n′ t t′ (r, e, o) (r′, e′, o′) =
     let d = outcome-only o o′ in
     (sym e ∙ ap building.numbered (d .answer) ∙ e′, same-room (d .map-same) (d .rows-same) (d .exits-same) (d .work-same))
 
-same-slices : {l l′ : Slices} → l .stack ≡ l′ .stack → l .kinds ≡ l′ .kinds → l .values ≡ l′ .values → l ≡ l′
-same-slices a b c = λ i. record { stack = a i; kinds = b i; values = c i }
-
-pub runs : (k : ℕ) (rows exits : List ℕ) (limit : ℕ) (mode : Bool) (input : List ℕ) (l : Slices) → Settles (RunCall k rows exits limit mode input l)
-runs k rows exits limit mode input l n n′ s s′ (r, e, o) (r′, e′, o′) =
-    let d = run-only k rows exits limit mode input l o o′ in
-    (sym e ∙ ap running.numbered (d .0) ∙ e′, same-slices (d .1) (d .2) (d .3))
+pub runs : (k : ℕ) (rows exits : List ℕ) (g : Given) (l : Slices) → Settles (RunCall k rows exits g l)
+runs k rows exits g l n n′ s s′ (r, e, o) (r′, e′, o′) =
+    let d = run-only k rows exits g l o o′ in
+    (sym e ∙ ap running.numbered (d .0) ∙ e′, d .1)
 
 pub tells : (k : ℕ) (rows exits : List ℕ) → Settles (ForeverCall k rows exits)
-tells k rows exits n n′ s s′ (r, e, o) (r′, e′, o′) = (sym e ∙ ap always.numbered (o ∙ sym o′) ∙ e′, refl)
+tells k rows exits n n′ s s′ (r, e, o) (r′, e′, o′) = (sym e ∙ o ∙ sym o′ ∙ e′, refl)

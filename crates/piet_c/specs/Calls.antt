@@ -10,7 +10,7 @@ use Rattle.colour.specs.declared.label.Labelled.{Labelled}
 use Rattle.colour.specs.Label as labelling
 use Rattle.cfg.specs.declared.building.Built.{Built}
 use Rattle.cfg.specs.Build as building
-use mathlib.Core.Bool.{Bool}
+use Rattle.machine.specs.Machine.{Given}
 use Rattle.machine.specs.Held.{Slices}
 use Rattle.interpreter.specs.declared.Ran.{Ran}
 use Rattle.interpreter.specs.declared.Forever.{Forever}
@@ -39,11 +39,9 @@ BuildCall p s n s′ =
     (r : Built) × (building.numbered r ≡ n)
     × building.Outcome p (s .map) (s .rows) (s .exits) (s .work) r (s′ .map) (s′ .rows) (s′ .exits) (s′ .work)
 
-abbrev pub RunCall : ℕ → List ℕ → List ℕ → ℕ → Bool → List ℕ → Slices → Numbers → Slices → Type 0
-RunCall n rows exits limit mode input l k l′ =
-    (r : Ran) × (running.numbered r ≡ k)
-    × (running.outcome r (l′ .stack) (l′ .kinds) (l′ .values) ≡ running.outcomeOf n rows exits limit mode input l)
+abbrev pub RunCall : ℕ → List ℕ → List ℕ → Given → Slices → Numbers → Slices → Type 0
+RunCall n rows exits g l k l′ = (r : Ran) × (running.numbered r ≡ k) × running.Outcome n rows exits g l r l′
 
 -- nothing is lent besides the answer
 abbrev pub ForeverCall : ℕ → List ℕ → List ℕ → Numbers → Unit {0} → Type 0
-ForeverCall n rows exits k u = (r : Forever) × (always.numbered r ≡ k) × (r ≡ always.foreverOf n rows exits)
+ForeverCall n rows exits k u = (r : Forever) × (always.numbered r ≡ k) × (always.numbered r ≡ always.answer n rows exits)

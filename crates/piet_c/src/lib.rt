@@ -9,6 +9,7 @@ ghost use Rattle.base.specs.Numbers.{numbers};
 ghost use Rattle.picture.specs.Picture.{picture};
 ghost use Rattle.colour.specs.Label as labelling;
 ghost use Rattle.cfg.specs.Build as building;
+ghost use Rattle.machine.specs.Machine.{given};
 ghost use Rattle.machine.specs.Held as held;
 ghost use Rattle.interpreter.specs.Outcome as running;
 ghost use Rattle.interpreter.specs.Forever as always;
@@ -20,6 +21,7 @@ use colour::label::Labelled;
 use interpreter::Ended;
 use interpreter::Forever;
 use interpreter::Ran;
+use machine::Terms;
 
 // An answer of one value, and of two.
 struct One {
@@ -203,7 +205,7 @@ fn of_ended(e: Ended) -> Eight
         cc: pointers.cc as u64,
         depth: core.depth as u64,
         outputs: core.outputs as u64,
-        used: core.used as u64,
+        used: core.reading.used as u64,
     }
 }
 
@@ -211,8 +213,8 @@ fn of_ran(r: Ran) -> Eight
     ensures { λ t. ⌜ numbers (t .number) (t .status ∷ t .steps ∷ t .region ∷ t .dp ∷ t .cc ∷ t .depth ∷ t .outputs ∷ t .used ∷ []) ≡ running.numbered r ⌝ }
 {
     match r {
-        Ran::Refused => Eight {
-            number: 10,
+        Ran::Refused(number) => Eight {
+            number,
             status: 0,
             steps: 0,
             region: 0,
@@ -277,22 +279,16 @@ pub extern "C" fn piet_run(
     values: &mut [i64],
     answer: &mut [u64],
 ) -> u32
-    ensures { λ r. ⌜ Exported 8 (RunCall n (now (rows .entry)) (now (exits .entry)) limit «abstract_mode» (now (input .entry)) (held.slices (now (stack .entry)) (now (kinds .entry)) (now (values .entry)))) (held.slices (now (stack .entry)) (now (kinds .entry)) (now (values .entry))) (now (answer .entry)) r (held.slices (now (stack .exit)) (now (kinds .exit)) (now (values .exit))) (now (answer .exit)) ⌝ }
+    ensures { λ r. ⌜ Exported 8 (RunCall n (now (rows .entry)) (now (exits .entry)) (given (record { limit = limit; «abstract_mode» = «abstract_mode» }) (now (input .entry))) (held.slices (now (stack .entry)) (now (kinds .entry)) (now (values .entry)))) (held.slices (now (stack .entry)) (now (kinds .entry)) (now (values .entry))) (now (answer .entry)) r (held.slices (now (stack .exit)) (now (kinds .exit)) (now (values .exit))) (now (answer .exit)) ⌝ }
 {
     if answer.len() < 8 {
         return 4;
     }
-    let told = of_ran(interpreter::run(
-        n,
-        rows,
-        exits,
+    let terms = Terms {
         limit,
         abstract_mode,
-        input,
-        stack,
-        kinds,
-        values,
-    ));
+    };
+    let told = of_ran(interpreter::run(n, rows, exits, terms, input, stack, kinds, values));
     let number = told.number;
     put_eight(answer, told);
     number

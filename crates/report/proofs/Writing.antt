@@ -7,6 +7,7 @@ use native.Mathlib.Omega.{arith}
 use lib.ListN.{length, length-append}
 use Rattle.base.specs.Lent.{Put, Room}
 use Rattle.base.proofs.Over.{put-put, put-length, over-none}
+use Rattle.report.specs.Text.{newline}
 use Rattle.report.specs.Wrote.{Wrote}
 
 -- a word and then another
@@ -52,3 +53,8 @@ wrote-then {v = v} {w = w} p q h =
     let k = p .short in
     let l = q .short in
     record { put = put-put (omega arith) (p .put) (q .put); short = rw (length-append v w) (omega arith) }
+
+-- a line: its head, what it lists, and a newline
+pub wrote-line : {d d₁ d₂ d₃ v w : List ℕ} {at r s t m n : ℕ} → Wrote d at v r d₁ m → Wrote d₁ r w s d₂ n → Put d₂ s newline t d₃
+    → at + (m + n + 1) ≤ length d → Wrote d at (v ++ w ++ newline) t d₃ (m + n + 1)
+wrote-line p q x h = wrote-then (wrote-then p q (omega arith)) (wrote x 1 (omega arith)) h

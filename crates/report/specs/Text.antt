@@ -35,20 +35,23 @@ unfoldable pub items : List Emit → List ℕ
 items [] = []
 items (e ∷ es) = item (e .kind) (e .value) ++ items es
 
--- a word and a number
+-- a word and a number, and a line of these
+unfoldable pub counted : List ℕ → ℕ → List ℕ
+counted word n = word ++ decimal n
+
 unfoldable pub line : List ℕ → ℕ → List ℕ
-line word n = word ++ decimal n ++ newline
+line word n = counted word n ++ newline
 
 -- "`at` has label, dp, cc"
 unfoldable pub placeLine : List ℕ → ℕ → ℕ → List ℕ
-placeLine label dp cc = ascii "at " ++ label ++ ascii " " ++ decimal dp ++ line (ascii " ") cc
+placeLine label dp cc = ascii "at " ++ label ++ counted (ascii " ") dp ++ line (ascii " ") cc
 
 -- "`stack` and `out` a count and then values, top first, or .. in order"
 unfoldable pub stackLine : List ℤ → List ℕ
-stackLine stack = ascii "stack " ++ decimal (length stack) ++ values stack ++ newline
+stackLine stack = counted (ascii "stack ") (length stack) ++ values stack ++ newline
 
 unfoldable pub outLine : List Emit → List ℕ
-outLine outs = ascii "out " ++ decimal (length outs) ++ items outs ++ newline
+outLine outs = counted (ascii "out ") (length outs) ++ items outs ++ newline
 
 -- the five lines of a result: status, steps, label, dp, cc, the stack, top first, and the outputs, in order
 unfoldable pub resultText : ℕ → ℕ → List ℕ → ℕ → ℕ → List ℤ → List Emit → List ℕ

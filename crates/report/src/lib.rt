@@ -14,6 +14,7 @@ ghost use Rattle.report.specs.Text.{
   item,
   values,
   items,
+  counted,
   line,
   placeLine,
   stackLine,
@@ -106,14 +107,22 @@ fn put_items(out: &mut [u8], at: usize, kinds: &[u8], numbers: &[i64], count: us
     next
 }
 
+// A word and a number.
+fn put_count(out: &mut [u8], at: usize, word: &[u8], n: u64) -> usize
+    requires { ⌜ at + (length (now word) + 20) ≤ length (now out) ⌝ }
+    ensures { λ r. ⌜ Wrote (now (out .entry)) at (counted (now (word .entry)) n) r (now (out .exit)) (length (now (word .entry)) + 20) ⌝ }
+{
+    let next = put_word(out, at, word);
+    put_number(out, next, n)
+}
+
 // A line of a word and a number.
 fn put_line(out: &mut [u8], at: usize, word: &[u8], n: u64) -> usize
     requires { ⌜ at + (length (now word) + 21) ≤ length (now out) ⌝ }
     ensures { λ r. ⌜ Wrote (now (out .entry)) at (line (now (word .entry)) n) r (now (out .exit)) (length (now (word .entry)) + 21) ⌝ }
 {
-    let a = put_word(out, at, word);
-    let b = put_number(out, a, n);
-    put_word(out, b, b"\n")
+    let next = put_count(out, at, word, n);
+    put_word(out, next, b"\n")
 }
 
 // The line `at`: label and pointers.
@@ -123,9 +132,8 @@ fn put_place(out: &mut [u8], at: usize, label: &[u8], dp: u64, cc: u64) -> usize
 {
     let a = put_word(out, at, b"at ");
     let b = put_word(out, a, label);
-    let c = put_word(out, b, b" ");
-    let d = put_number(out, c, dp);
-    put_line(out, d, b" ", cc)
+    let c = put_count(out, b, b" ", dp);
+    put_line(out, c, b" ", cc)
 }
 
 // The line `stack`.
@@ -133,10 +141,9 @@ fn put_stack(out: &mut [u8], at: usize, stack: &[i64], depth: usize) -> usize
     requires { ⌜ (depth ≤ length (now stack)) × (at + (21 * depth + 27) ≤ length (now out)) ⌝ }
     ensures { λ r. ⌜ Wrote (now (out .entry)) at (stackLine (stackOf (now (stack .entry)) depth)) r (now (out .exit)) (21 * depth + 27) ⌝ }
 {
-    let a = put_word(out, at, b"stack ");
-    let b = put_number(out, a, depth as u64);
-    let c = put_values(out, b, stack, depth);
-    put_word(out, c, b"\n")
+    let a = put_count(out, at, b"stack ", depth as u64);
+    let b = put_values(out, a, stack, depth);
+    put_word(out, b, b"\n")
 }
 
 // The line `out`.
@@ -144,10 +151,9 @@ fn put_out(out: &mut [u8], at: usize, kinds: &[u8], numbers: &[i64], count: usiz
     requires { ⌜ ((count ≤ length (now kinds)) × (count ≤ length (now numbers))) × (at + (22 * count + 25) ≤ length (now out)) ⌝ }
     ensures { λ r. ⌜ Wrote (now (out .entry)) at (outLine (outsOf (now (kinds .entry)) (now (numbers .entry)) count)) r (now (out .exit)) (22 * count + 25) ⌝ }
 {
-    let a = put_word(out, at, b"out ");
-    let b = put_number(out, a, count as u64);
-    let c = put_items(out, b, kinds, numbers, count);
-    put_word(out, c, b"\n")
+    let a = put_count(out, at, b"out ", count as u64);
+    let b = put_items(out, a, kinds, numbers, count);
+    put_word(out, b, b"\n")
 }
 
 // The five lines of a run's result, at the start of out.

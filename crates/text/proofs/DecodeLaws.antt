@@ -4,16 +4,20 @@
 --     never1, is2, is3, is4    the first byte says which
 --     read1 .. read4, no-char-at       what `Reads` asks, from the numbers
 --     carries, no-tail         what `TailAt` says, by the answer
+--     Gathers                  the bits of the first byte and of some continuation bytes are a number
+--     tail-needed, same-number, reads-long, no-scalar      a character of more bytes than one, by what `Leads` says of its first
 -- Assumes nothing.
-use Prim.Native.Nat.{ℕ, _+_, _-_, _/_, _<_, _≤_}
+use Prim.Native.Nat.{ℕ, zero, suc, _+_, _-_, _*_, _/_, _<_, _≤_}
 use mathlib.Core.Path.{_≡_, refl, sym, ap, _∙_, subst}
+use mathlib.Core.Bool.{true, false, true≢false}
 use mathlib.Core.Logic.{_⊎_, inl, inr}
 use mathlib.Core.List.{List, _∷_, _++_}
-use native.Mathlib.Nat.{add-zero}
+use native.Mathlib.Nat.{add-zero, div-div-eq-div-mul}
+use native.Mathlib.Numerals.{add-one}
 use native.Mathlib.Omega.{arith}
 use lib.ListN.{length, getD, drop, length-drop}
 use lib.Seq.{getD-drop}
-use Rattle.text.specs.Utf8.{encode, bytes1, bytes2, bytes3, bytes4, tailByte, IsTail, IsChar, Reads, char, bad, Carries, TailAt, tail, other}
+use Rattle.text.specs.Utf8.{scalar, encode, bytes1, bytes2, bytes3, bytes4, tailByte, IsTail, IsChar, Reads, char, bad, Carries, TailAt, tail, other, Leads, leads2, leads3, leads4}
 use Rattle.text.specs.declared.utf8.Decoded.the-variants.{Char, Bad}
 use Rattle.text.specs.declared.utf8.Tail.{Tail}
 use Rattle.text.specs.declared.utf8.Tail.the-variants.{Bits, Other}
@@ -75,19 +79,19 @@ module _ (s : List ℕ) (at c : ℕ) where
   never1 (three r) l h = omega arith
   never1 (four r) l h = omega arith
 
-  pub is2 : Stands s at c → 0xC0 ≤ getD s at 0 → getD s at 0 < 0xE0 → Two s at c
+  is2 : Stands s at c → 0xC0 ≤ getD s at 0 → getD s at 0 < 0xE0 → Two s at c
   is2 (one r) l h = absurd (omega arith)
   is2 (two r) l h = r
   is2 (three r) l h = absurd (omega arith)
   is2 (four r) l h = absurd (omega arith)
 
-  pub is3 : Stands s at c → 0xE0 ≤ getD s at 0 → getD s at 0 < 0xF0 → Three s at c
+  is3 : Stands s at c → 0xE0 ≤ getD s at 0 → getD s at 0 < 0xF0 → Three s at c
   is3 (one r) l h = absurd (omega arith)
   is3 (two r) l h = absurd (omega arith)
   is3 (three r) l h = r
   is3 (four r) l h = absurd (omega arith)
 
-  pub is4 : Stands s at c → 0xF0 ≤ getD s at 0 → Four s at c
+  is4 : Stands s at c → 0xF0 ≤ getD s at 0 → Four s at c
   is4 (one r) l = absurd (omega arith)
   is4 (two r) l = absurd (omega arith)
   is4 (three r) l = absurd (omega arith)
@@ -169,23 +173,140 @@ module _ (s : List ℕ) (at c : ℕ) where
       (record { scalar = bounds-scalar c (omega arith) (inl (omega arith)); next = rw e; bytes = rw e (cc (from1 s at (r .long))) })
       refl
 
-  pub read2 : Two s at c → Reads s at (Char c (at + 2))
+  read2 : Two s at c → Reads s at (Char c (at + 2))
   read2 r =
       let e : encode c ≡ bytes2 c = encode2 c (r .lo) (r .hi) in
       char c (at + 2)
       (record { scalar = bounds-scalar c (omega arith) (inl (omega arith)); next = rw e; bytes = rw e (cc (from2 s at (r .long))) })
       refl
 
-  pub read3 : Three s at c → Reads s at (Char c (at + 3))
+  read3 : Three s at c → Reads s at (Char c (at + 3))
   read3 r =
       let e : encode c ≡ bytes3 c = encode3 c (r .lo) (r .hi) in
       char c (at + 3)
       (record { scalar = bounds-scalar c (omega arith) (r .gap); next = rw e; bytes = rw e (cc (from3 s at (r .long))) })
       refl
 
-  pub read4 : Four s at c → Reads s at (Char c (at + 4))
+  read4 : Four s at c → Reads s at (Char c (at + 4))
   read4 r =
       let e : encode c ≡ bytes4 c = encode4 c (r .lo) in
       char c (at + 4)
       (record { scalar = bounds-scalar c (r .hi) (inr (omega arith)); next = rw e; bytes = rw e (cc (from4 s at (r .long))) })
       refl
+
+-- ---- the bits of the first byte and of continuation bytes after it
+abbrev pub bits : List ℕ → ℕ → ℕ → ℕ → ℕ
+bits s at high zero = high
+bits s at high (suc i) = bits s at high i * 64 + (getD s (at + suc i) 0 - 0x80)
+
+abbrev pub Tails : List ℕ → ℕ → ℕ → Type 0
+Tails s at zero = Unit {0}
+Tails s at (suc i) = Tails s at i × ((at + suc i < length s) × IsTail (getD s (at + suc i) 0))
+
+-- i continuation bytes stand after the first, and the bits up to there are the number cp
+pub record Gathers (s : List ℕ) (at high i cp : ℕ) : Type 0 where
+  pub tails : Tails s at i
+  pub is : cp ≡ bits s at high i
+
+pub gathers-none : (s : List ℕ) (at high : ℕ) → Gathers s at high 0 high
+gathers-none s at high = record { tails = tt; is = refl }
+
+pub gathers-more : (s : List ℕ) (at high i cp x : ℕ) → Gathers s at high i cp → Carries s (at + (i + 1)) x → Gathers s at high (i + 1) (cp * 64 + x)
+gathers-more s at high i cp x g k =
+    let l = rw (add-one i) at k in
+    rw (add-one i) (record { tails = (g .tails, (l .inside, (omega arith, omega arith))); is = omega (arith, g .is) })
+
+module _ (s : List ℕ) (at high : ℕ) where
+  -- the number stays small while a byte is to come
+  bits-small : (i cp : ℕ) → i ≤ 2 → high < 32 → Gathers s at high i cp → cp < 0x20000
+  bits-small zero cp l h g = omega arith
+  bits-small (suc zero) cp l h g = omega arith
+  bits-small (suc (suc zero)) cp l h g = omega arith
+  bits-small (suc (suc (suc i))) cp l h g = absurd (omega arith)
+
+  pub all-of : (cp m n : ℕ) → m ≡ n → Gathers s at high m cp → Gathers s at high n cp
+  all-of cp m n e g = subst (λ (k : ℕ). Gathers s at high k cp) e g
+
+module _ (s : List ℕ) (at high : ℕ) {more least : ℕ} where
+  pub few-more : Leads (getD s at 0) high more least → more ≤ 3
+  few-more (leads2 b h m l) = omega arith
+  few-more (leads3 b h m l) = omega arith
+  few-more (leads4 b h m l) = omega arith
+
+  pub number-small : Leads (getD s at 0) high more least → (i cp : ℕ) → i < more → Gathers s at high i cp → cp < 0x20000
+  number-small (leads2 b h m l) i cp k g = bits-small s at high i cp (omega arith) (omega arith) g
+  number-small (leads3 b h m l) i cp k g = bits-small s at high i cp (omega arith) (omega arith) g
+  number-small (leads4 b h m l) i cp k g = bits-small s at high i cp (omega arith) (omega arith) g
+
+  -- a character that stands there has all the continuation bytes
+  needs-tail : Leads (getD s at 0) high more least → (c : ℕ) → Stands s at c → (k : ℕ) → k < more
+      → (at + suc k < length s) × IsTail (getD s (at + suc k) 0)
+  needs-tail (leads2 b h m l) c st zero lt = let t = is2 s at c st (omega arith) (omega arith) in (omega arith, (omega arith, omega arith))
+  needs-tail (leads2 b h m l) c st (suc k) lt = absurd (omega arith)
+  needs-tail (leads3 b h m l) c st zero lt = let t = is3 s at c st (omega arith) (omega arith) in (omega arith, (omega arith, omega arith))
+  needs-tail (leads3 b h m l) c st (suc zero) lt = let t = is3 s at c st (omega arith) (omega arith) in (omega arith, (omega arith, omega arith))
+  needs-tail (leads3 b h m l) c st (suc (suc k)) lt = absurd (omega arith)
+  needs-tail (leads4 b h m l) c st zero lt = let t = is4 s at c st (omega arith) in (omega arith, (omega arith, omega arith))
+  needs-tail (leads4 b h m l) c st (suc zero) lt = let t = is4 s at c st (omega arith) in (omega arith, (omega arith, omega arith))
+  needs-tail (leads4 b h m l) c st (suc (suc zero)) lt = let t = is4 s at c st (omega arith) in (omega arith, (omega arith, omega arith))
+  needs-tail (leads4 b h m l) c st (suc (suc (suc k))) lt = absurd (omega arith)
+
+  pub tail-needed : Leads (getD s at 0) high more least → (c : ℕ) → Stands s at c → (k : ℕ) → k < more
+      → (at + (k + 1) < length s) × IsTail (getD s (at + (k + 1)) 0)
+  tail-needed L c st k lt = rw (add-one k) (needs-tail L c st k lt)
+
+  module _ (cp : ℕ) where
+    -- it has that number, which needs so many bytes
+    pub same-number : Leads (getD s at 0) high more least → Gathers s at high more cp → (c : ℕ) → Stands s at c → (c ≡ cp) × (least ≤ c)
+    same-number (leads2 b h m l) g c st =
+        let t = is2 s at c st (omega arith) (omega arith) in
+        let f = all-of s at high cp more 1 m g in
+        (omega arith, omega arith)
+    same-number (leads3 b h m l) g c st =
+        let t = is3 s at c st (omega arith) (omega arith) in
+        let f = all-of s at high cp more 2 m g in
+        (omega (arith, div-div-eq-div-mul c 64 64), omega arith)
+    same-number (leads4 b h m l) g c st =
+        let t = is4 s at c st (omega arith) in
+        let f = all-of s at high cp more 3 m g in
+        (omega (arith, div-div-eq-div-mul c 64 64, div-div-eq-div-mul c 4096 64), omega arith)
+
+    -- a scalar that needs so many bytes stands there
+    pub reads-long : Leads (getD s at 0) high more least → Gathers s at high more cp → least ≤ cp → scalar cp ≡ true → Reads s at (Char cp (at + more + 1))
+    reads-long (leads2 b h m l) g k e =
+        let f = all-of s at high cp more 1 m g in
+        let n : at + 2 ≡ at + more + 1 = omega arith in
+        rw n at (read2 s at cp (record { long = omega arith; lo = omega arith; hi = omega arith; b₀ = omega arith; b₁ = omega arith }))
+    reads-long (leads3 b h m l) g k e =
+        let f = all-of s at high cp more 2 m g in
+        let n : at + 3 ≡ at + more + 1 = omega arith in
+        rw n at
+        (read3 s at cp
+        (record {
+          long = omega arith;
+          lo = omega arith;
+          hi = omega arith;
+          gap = scalar-bounds cp e .1;
+          b₀ = omega arith;
+          b₁ = omega arith;
+          b₂ = omega arith;
+        }))
+    reads-long (leads4 b h m l) g k e =
+        let f = all-of s at high cp more 3 m g in
+        let u = scalar-bounds cp e .0 in
+        let n : at + 4 ≡ at + more + 1 = omega arith in
+        rw n at
+        (read4 s at cp
+        (record {
+          long = omega arith;
+          lo = omega arith;
+          hi = omega arith;
+          b₀ = omega arith;
+          b₁ = omega arith;
+          b₂ = omega arith;
+          b₃ = omega arith;
+        }))
+
+    pub no-scalar : at < length s → Leads (getD s at 0) high more least → Gathers s at high more cp → scalar cp ≡ false → Reads s at Bad
+    no-scalar h L g e =
+        bad h (λ c n k. true≢false (sym (k .scalar) ∙ ap scalar (same-number L g c (stands s at c n k) .0) ∙ e)) refl

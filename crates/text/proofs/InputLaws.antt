@@ -11,12 +11,11 @@ use native.Mathlib.Omega.{arith}
 use denote.Enum.Declared.{tagOf}
 use lib.IntN.{ℤ, pos}
 use lib.ListN.{length, take, drop, drop-of-length-le}
-use Rattle.base.specs.Numbers.{Numbers, numbers}
 use Rattle.text.specs.Line.{lineLength, lineEnd}
 use Rattle.text.specs.Utf8.{Utf8, Valid, IsChar, Reads, char, bad, past}
 use Rattle.text.specs.Trim.{Trims}
 use Rattle.text.specs.Number.{parsed}
-use Rattle.text.specs.Input.{charOf, intOf, numbered, pushed, values, Takes, reads, bad as bad-line}
+use Rattle.text.specs.Input.{charOf, intOf, given, Takes, reads, bad as bad-line}
 use Rattle.text.specs.declared.utf8.Decoded.{Decoded}
 use Rattle.text.specs.declared.number.Number.{Number}
 use Rattle.text.specs.declared.number.Number.the-variants.{Value, NotANumber}
@@ -26,34 +25,29 @@ use Rattle.text.proofs.Utf8Laws.{utf8-none, utf8-unique, head-is}
 use Rattle.text.proofs.ValidLaws.{bad-never}
 use Rattle.text.proofs.LineLaws.{line-none, line-part}
 
--- the place after the line
-abbrev kept : ℕ → Numbers
-kept n = numbers 0 (n ∷ [])
-
 pub take-none : (f : List ℕ → Number) (s : List ℕ) (at : ℕ) → f [] ≡ NotANumber → length s ≤ at → Takes f s at (Skip at)
-unfolding numbered pushed values
+unfolding given
 take-none f s at e h =
     let n : lineLength (drop at s) ≡ 0 = line-none s at h in
     let p : at ≡ lineEnd s at = omega arith in
-    reads [] (utf8-none (take (lineLength (drop at s)) (drop at s)) (rw n)) (ap kept p) (sym (ap values e))
+    reads [] (utf8-none (take (lineLength (drop at s)) (drop at s)) (rw n)) (rw (e, ← p))
 
 -- the part of the input up to e, where the line ends
 module _ (f : List ℕ → Number) (s : List ℕ) (at e : ℕ) (is : e ≡ lineEnd s at) where
   pub take-bad : (Valid (take (e - at) (drop at s)) → ⊥) → Takes f s at BadInput
-  unfolding numbered pushed
-  take-bad n = bad-line (λ v. n (subst Valid (sym (line-part s at e is)) v)) refl refl
+  take-bad n = bad-line (λ v. n (subst Valid (sym (line-part s at e is)) v)) refl
 
   module _ (cs : List ℕ) (u : Utf8 (take (e - at) (drop at s)) cs) where
     line-utf8 : Utf8 (take (lineLength (drop at s)) (drop at s)) cs
     line-utf8 = subst (λ (l : List ℕ). Utf8 l cs) (line-part s at e is) u
 
     pub take-skip : f cs ≡ NotANumber → Takes f s at (Skip e)
-    unfolding numbered pushed values
-    take-skip q = reads cs line-utf8 (ap kept is) (sym (ap values q))
+    unfolding given
+    take-skip q = reads cs line-utf8 (rw (q, ← is))
 
     pub take-push : (v : ℤ) → f cs ≡ Value v → Takes f s at (Push v e)
-    unfolding numbered pushed values
-    take-push v q = reads cs line-utf8 (ap kept is) (sym (ap values q))
+    unfolding given
+    take-push v q = reads cs line-utf8 (rw (q, ← is))
 
 -- ---- the characters cs of a line l
 module _ (l cs : List ℕ) (u : Utf8 l cs) where

@@ -1,27 +1,32 @@
 -- Numerals, digit by digit.
 --     digits-on, digits-low, digits-high, digits-end    whether digits stand from a place on, by the byte there
---     onward-on, onward-end, onward-le                  their value after a number
+--     value-on, value-end, value-le                  their value after a number
 --     no-numeral, too-large, is-magnitude               what `magnitudeOf` then is
 --     magnitude-le                                      a magnitude is no more than the limit
 --     minus-one, below-zero                             -1 - m, and -n, as the machine has them
 --     number-none .. number-bare                        a number by its first byte
+--     read-back                                         a number that is printed in decimal is read as itself
 -- Assumes nothing.
-use Prim.Native.Nat.{ℕ, zero, suc, _+_, _*_, _-_, _^_, _<_, _≤_}
-use mathlib.Core.Path.{_≡_, refl, ap, _∙_}
+use Prim.Native.Nat.{ℕ, zero, suc, _+_, _*_, _-_, _/_, _%_, _^_, _<_, _≤_}
+use mathlib.Core.Path.{_≡_, refl, sym, ap, _∙_}
 use mathlib.Core.Bool.{Bool, true, false, _&&_, cond, and-false}
-use mathlib.Core.List.{List, [], _∷_}
+use mathlib.Core.List.{List, [], _∷_, _++_}
 use native.Mathlib.Nat.{le-trans, le-refl, zero-add}
 use native.Mathlib.Omega.{arith}
-use borrow.Author.Tests.{le-leb, lt-leb, leb-true, eq-eqb, ne-eqb}
+use borrow.Author.Tests.{le-leb, lt-leb, lt-ltb, le-ltb, leb-true, eq-eqb, ne-eqb}
 use lib.Dec.{leb}
 use lib.IntN.{ℤ, pos, negsuc, negℤ, _-ℤ_}
 use lib.ListN.{length, getD, drop, drop-of-length-le}
 use mir.Syntax.{w64}
 use mir.Val.{toZ}
 use mir.ValLaws.{toZ-pos}
-use Rattle.base.proofs.Tests.{and-both}
-use Rattle.text.specs.Number.{digits, numeral, onward, magnitudeOf, plus, minus, parsed}
-use Rattle.text.specs.declared.number.Number.the-variants.{NotANumber}
+use Rattle.base.specs.Text as base
+use Rattle.base.specs.Text.{decimal, valueAfter}
+use Rattle.base.proofs.Tests.{and-both, by-size}
+use Rattle.base.proofs.Decimal.{decimal-small, decimal-value, decimal-some, decimal-lead}
+use Rattle.text.specs.Range.{within}
+use Rattle.text.specs.Number.{digits, numeral, magnitudeOf, sign, plus, minus, parsed}
+use Rattle.text.specs.declared.number.Number.the-variants.{Value, NotANumber}
 use Rattle.text.specs.declared.number.Magnitude.the-variants.{Is, Not}
 use Rattle.text.proofs.RangeLaws.{inside, below, above}
 use Rattle.text.proofs.Parts.{from1}
@@ -43,18 +48,18 @@ module _ (s : List ℕ) (i : ℕ) where
   unfolding digits
   digits-end h = rw (drop-of-length-le s h)
 
-  pub onward-on : (n b : ℕ) → i < length s → b ≡ getD s i 0 → onward n (drop i s) ≡ onward (n * 10 + (b - 0x30)) (drop (i + 1) s)
-  unfolding onward
-  onward-on n b h e = rw (from1 s i h, e)
+  pub value-on : (n b : ℕ) → i < length s → b ≡ getD s i 0 → valueAfter n (drop i s) ≡ valueAfter (n * 10 + (b - 0x30)) (drop (i + 1) s)
+  unfolding valueAfter
+  value-on n b h e = rw (from1 s i h, e)
 
-  pub onward-end : (n : ℕ) → length s ≤ i → onward n (drop i s) ≡ n
-  unfolding onward
-  onward-end n h = rw (drop-of-length-le s h)
+  pub value-end : (n : ℕ) → length s ≤ i → valueAfter n (drop i s) ≡ n
+  unfolding valueAfter
+  value-end n h = rw (drop-of-length-le s h)
 
-pub onward-le : (n : ℕ) (bs : List ℕ) → n ≤ onward n bs
-unfolding onward
-onward-le n [] = le-refl n
-onward-le n (b ∷ bs) = le-trans {m = n * 10 + (b - 0x30)} (omega arith) (onward-le (n * 10 + (b - 0x30)) bs)
+pub value-le : (n : ℕ) (bs : List ℕ) → n ≤ valueAfter n bs
+unfolding valueAfter
+value-le n [] = le-refl n
+value-le n (b ∷ bs) = le-trans {m = n * 10 + (b - 0x30)} (omega arith) (value-le (n * 10 + (b - 0x30)) bs)
 
 module _ (limit : ℕ) where
   pub no-numeral : (s : List ℕ) → digits s ≡ false → magnitudeOf limit s ≡ Not
@@ -62,14 +67,14 @@ module _ (limit : ℕ) where
   no-numeral [] e = refl
   no-numeral (b ∷ bs) e = rw e
 
-  pub too-large : (s : List ℕ) → limit < onward 0 s → magnitudeOf limit s ≡ Not
+  pub too-large : (s : List ℕ) → limit < valueAfter 0 s → magnitudeOf limit s ≡ Not
   unfolding magnitudeOf
-  too-large s h = rw (lt-leb (onward 0 s) limit h, and-false)
+  too-large s h = rw (lt-leb (valueAfter 0 s) limit h, and-false)
 
-  pub is-magnitude : (s : List ℕ) → 0 < length s → digits s ≡ true → onward 0 s ≤ limit → magnitudeOf limit s ≡ Is (onward 0 s)
+  pub is-magnitude : (s : List ℕ) → 0 < length s → digits s ≡ true → valueAfter 0 s ≤ limit → magnitudeOf limit s ≡ Is (valueAfter 0 s)
   unfolding magnitudeOf numeral
   is-magnitude [] n e h = absurd (omega arith)
-  is-magnitude (b ∷ bs) n e h = rw (e, le-leb (onward 0 (b ∷ bs)) limit h)
+  is-magnitude (b ∷ bs) n e h = rw (e, le-leb (valueAfter 0 (b ∷ bs)) limit h)
 
   pub empty-magnitude : (s : List ℕ) → length s ≡ 0 → magnitudeOf limit s ≡ Not
   unfolding magnitudeOf numeral
@@ -83,9 +88,9 @@ pick-is n v false q = let z : _≡_ {A = ℕ} 0 1 = cc in absurd (omega arith)
 pub magnitude-le : (limit n : ℕ) (s : List ℕ) → Is n ≡ magnitudeOf limit s → n ≤ limit
 unfolding magnitudeOf
 magnitude-le limit n s q =
-    let p = pick-is n (onward 0 s) (numeral s && leb (onward 0 s) limit) q in
-    let e : n ≡ onward 0 s = cc (p .1) in
-    rw e (leb-true (onward 0 s) limit (and-both (numeral s) (leb (onward 0 s) limit) (p .0) .1))
+    let p = pick-is n (valueAfter 0 s) (numeral s && leb (valueAfter 0 s) limit) q in
+    let e : n ≡ valueAfter 0 s = cc (p .1) in
+    rw e (leb-true (valueAfter 0 s) limit (and-both (numeral s) (leb (valueAfter 0 s) limit) (p .0) .1))
 
 minus-pos : (m : ℕ) → negsuc 0 -ℤ pos m ≡ negsuc m
 minus-pos zero = refl
@@ -118,3 +123,40 @@ pub number-bare : (s : List ℕ) → 0 < length s → (getD s 0 0 ≡ 0x2D → �
 unfolding parsed
 number-bare [] h n m = absurd (omega arith)
 number-bare (b ∷ bs) h n m = rw (ne-eqb b 0x2D n, ne-eqb b 0x2B m)
+
+-- ---- base's decimal digits
+digits-append : (a b : List ℕ) → digits a ≡ true → digits b ≡ true → digits (a ++ b) ≡ true
+unfolding digits
+digits-append [] b e f = f
+digits-append (d ∷ a) b e f =
+    let p = and-both (within 0x30 0x39 d) (digits a) e in
+    rw (p .0) (digits-append a b (p .1) f)
+
+digit : (n : ℕ) → n < 10 → digits ((48 + n) ∷ []) ≡ true
+unfolding digits
+digit n h = rw (inside 0x30 0x39 (48 + n) (omega arith) (omega arith))
+
+all-digits : (f n : ℕ) → n ≤ f → digits (base.digits f n) ≡ true
+unfolding base.digits
+all-digits zero n h = digit n (omega arith)
+all-digits (suc f) n h =
+    by-size n 10 (λ l. rw (lt-ltb n 10 l) (digit n l))
+    (λ l. rw (le-ltb n 10 l) (digits-append (base.digits f (n / 10)) _ (all-digits f (n / 10) (omega arith)) (digit (n % 10) (omega arith))))
+
+decimal-digits : (n : ℕ) → digits (decimal n) ≡ true
+unfolding decimal
+decimal-digits n = all-digits n n (omega arith)
+
+decimal-first : (n : ℕ) → 48 ≤ getD (decimal n) 0 0
+decimal-first n =
+    by-size n 1 (λ l. rw (decimal-small n (omega arith)) (omega arith)) (λ l. omega (arith, decimal-lead n l))
+
+pub read-back : (n : ℕ) → n < 2 ^ 63 → parsed (decimal n) ≡ Value (pos n)
+unfolding sign
+read-back n h =
+    let s = decimal n in
+    let f = decimal-first n in
+    let v = decimal-value n in
+    let bare = number-bare s (decimal-some n) (λ e. omega arith) (λ e. omega arith) in
+    let is = is-magnitude (2 ^ 63 - 1) s (decimal-some n) (decimal-digits n) (omega arith) in
+    sym bare ∙ ap (sign pos) (is ∙ ap Is v)

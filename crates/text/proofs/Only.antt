@@ -10,14 +10,13 @@ use mathlib.Core.Path.{_≡_, sym, ap, _∙_}
 use mathlib.Core.List.{List, List-discrete}
 use native.Mathlib.Decide.{ℕ-discrete}
 use native.Mathlib.Omega.{arith}
-use Rattle.text.specs.Line.{lineAt}
+use Rattle.text.specs.Line.{lineAt, lineEnd}
 use Rattle.text.specs.Utf8.{Valid, Reads, char, bad, past}
 use Rattle.text.specs.Trim.{Trims}
-use Rattle.text.specs.Input.{numbered, pushed, values, Takes, reads, bad as bad-line}
+use Rattle.text.specs.Input.{given, Takes, reads, bad as bad-line}
 use Rattle.text.specs.declared.utf8.Decoded.{Decoded}
 use Rattle.text.specs.declared.number.Number.{Number}
 use Rattle.text.specs.declared.input.Taken.{Taken}
-use Rattle.text.specs.declared.input.Taken.the-variants.{Push, Skip, BadInput}
 use Rattle.text.proofs.Utf8Laws.{prefix-char, utf8-unique}
 use Rattle.text.proofs.ValidLaws.{read-on, read-within}
 
@@ -47,25 +46,11 @@ trims-only s t t′ p q = go (List-discrete ℕ-discrete t t′)
     go (yes e) = e
     go (no f) = absurd (f (p .other (λ v. f (valid v)) ∙ sym (q .other (λ v. f (valid v)))))
 
--- an answer is settled by its numbers and by what it pushes
-settled : (x y : Taken) → numbered x ≡ numbered y → pushed x ≡ pushed y → x ≡ y
-unfolding numbered pushed
-settled (Push v n) (Push w m) e q = cc
-settled (Push v n) (Skip m) e q = let z : _≡_ {A = ℕ} 0 1 = cc in absurd (omega arith)
-settled (Push v n) BadInput e q = let z : _≡_ {A = ℕ} 0 1 = cc in absurd (omega arith)
-settled (Skip n) (Push w m) e q = let z : _≡_ {A = ℕ} 0 1 = cc in absurd (omega arith)
-settled (Skip n) (Skip m) e q = cc
-settled (Skip n) BadInput e q = let z : _≡_ {A = ℕ} 0 6 = cc in absurd (omega arith)
-settled BadInput (Push w m) e q = let z : _≡_ {A = ℕ} 0 1 = cc in absurd (omega arith)
-settled BadInput (Skip m) e q = let z : _≡_ {A = ℕ} 0 6 = cc in absurd (omega arith)
-settled BadInput BadInput e q = cc
-
 -- an input instruction takes one thing
 module _ (f : List ℕ → Number) (s : List ℕ) (at : ℕ) (x y : Taken) where
   pub takes-only : Takes f s at x → Takes f s at y → x ≡ y
-  takes-only (reads cs u e p) (reads ds v g q) =
-      let z : cs ≡ ds = utf8-unique (lineAt s at) cs ds u v in
-      settled x y (e ∙ sym g) (p ∙ ap (λ (l : List ℕ). values (f l)) z ∙ sym q)
-  takes-only (reads cs u e p) (bad-line n g q) = absurd (n (cs, u))
-  takes-only (bad-line n e p) (reads ds v g q) = absurd (n (ds, v))
-  takes-only (bad-line n e p) (bad-line m g q) = settled x y (e ∙ sym g) (p ∙ sym q)
+  takes-only (reads cs u e) (reads ds v g) =
+      e ∙ ap (λ (l : List ℕ). given (f l) (lineEnd s at)) (utf8-unique (lineAt s at) cs ds u v) ∙ sym g
+  takes-only (reads cs u e) (bad-line n g) = absurd (n (cs, u))
+  takes-only (bad-line n e) (reads ds v g) = absurd (n (ds, v))
+  takes-only (bad-line n e) (bad-line m g) = e ∙ sym g

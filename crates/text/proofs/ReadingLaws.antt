@@ -1,5 +1,6 @@
 -- The functions that compute agree with the relations.
 --     reading-is                 the characters of UTF-8 are its reading
+--     same-self                  a list is the same as itself
 --     valid-utf8, utf8-valid     `valid` is true exactly of bytes that some characters read
 --     takes-of, takes-is         an input instruction takes `takeOf`, and nothing else
 -- Assumes nothing.
@@ -14,12 +15,11 @@ use lib.ListN.{length, length-append}
 use Rattle.base.proofs.Tests.{and-both}
 use Rattle.text.specs.Utf8.{scalars, encode, encodes, Utf8}
 use Rattle.text.specs.Line.{lineAt, lineEnd}
-use Rattle.text.specs.Input.{numbered, pushed, values, Takes, reads, bad}
-use Rattle.text.specs.Reading.{back, rest, chars, reading, same, valid, given, takeOf}
+use Rattle.text.specs.Input.{given, Takes, reads, bad}
+use Rattle.text.specs.Reading.{back, rest, chars, reading, same, valid, takeOf}
 use Rattle.text.specs.declared.number.Number.{Number}
-use Rattle.text.specs.declared.number.Number.the-variants.{Value, NotANumber}
 use Rattle.text.specs.declared.input.Taken.{Taken}
-use Rattle.text.specs.declared.input.Taken.the-variants.{Skip, BadInput}
+use Rattle.text.specs.declared.input.Taken.the-variants.{BadInput}
 use Rattle.text.proofs.Utf8Laws.{back-encode, rest-encode, encode-some}
 use Rattle.text.proofs.Only.{takes-only}
 
@@ -57,7 +57,7 @@ same-is [] (b ∷ bs) e = absurd (false≢true e)
 same-is (a ∷ l) [] e = absurd (false≢true e)
 same-is (a ∷ l) (b ∷ bs) e = let p = and-both (eqb a b) (same l bs) e in ap₂ _∷_ (eqb-true a b (p .0)) (same-is l bs (p .1))
 
-same-self : (a : List ℕ) → same a a ≡ true
+pub same-self : (a : List ℕ) → same a a ≡ true
 unfolding same
 same-self [] = refl
 same-self (a ∷ l) = rw (eq-eqb a a refl) (same-self l)
@@ -76,18 +76,10 @@ utf8-valid s cs u =
     rw (e, u .scalars) q
 
 -- ---- what an instruction takes
-given-numbered : (r : Number) (n : ℕ) → (numbered (given r n) ≡ numbered (Skip n)) × (pushed (given r n) ≡ values r)
-unfolding given numbered pushed values
-given-numbered (Value v) n = (refl, refl)
-given-numbered NotANumber n = (refl, refl)
-
 module _ (f : List ℕ → Number) (s : List ℕ) (at : ℕ) where
   takes-by : (t : Bool) → valid (lineAt s at) ≡ t → Takes f s at (cond t (given (f (reading (lineAt s at))) (lineEnd s at)) BadInput)
-  unfolding numbered pushed
-  takes-by true e =
-      let g = given-numbered (f (reading (lineAt s at))) (lineEnd s at) in
-      reads (reading (lineAt s at)) (valid-utf8 (lineAt s at) e) (g .0) (g .1)
-  takes-by false e = bad (λ v. false≢true (sym e ∙ utf8-valid (lineAt s at) (v .0) (v .1))) refl refl
+  takes-by true e = reads (reading (lineAt s at)) (valid-utf8 (lineAt s at) e) refl
+  takes-by false e = bad (λ v. false≢true (sym e ∙ utf8-valid (lineAt s at) (v .0) (v .1))) refl
 
   pub takes-of : Takes f s at (takeOf f s at)
   unfolding takeOf

@@ -2,8 +2,7 @@
 use Prim.Native.Nat.{ℕ}
 use mathlib.Core.Path.{_≡_}
 use mathlib.Core.List.{List, [], _∷_}
-use lib.IntN.{ℤ, pos}
-use Rattle.base.specs.Numbers.{Numbers, numbers}
+use lib.IntN.{pos}
 use Rattle.text.specs.Line.{lineAt, lineEnd}
 use Rattle.text.specs.Utf8.{encodes, Utf8, Valid}
 use Rattle.text.specs.White.{trimmed}
@@ -22,24 +21,13 @@ charOf (c ∷ cs) = Value (pos c)
 abbrev pub intOf : List ℕ → Number
 intOf cs = parsed (encodes (trimmed cs))
 
--- the answers in document 01's numbers: 0 with the place after the line, or 6 BadInput
-unfoldable pub numbered : Taken → Numbers
-numbered (Push v n) = numbers 0 (n ∷ [])
-numbered (Skip n) = numbers 0 (n ∷ [])
-numbered BadInput = numbers 6 (0 ∷ [])
+-- "a line either gives a number or the step is skipped": with the place after the line
+unfoldable pub given : Number → ℕ → Taken
+given (Value v) n = Push v n
+given NotANumber n = Skip n
 
--- the values that are pushed: one or none
-unfoldable pub pushed : Taken → List ℤ
-pushed (Push v n) = v ∷ []
-pushed (Skip n) = []
-pushed BadInput = []
-
-unfoldable pub values : Number → List ℤ
-values (Value v) = v ∷ []
-values NotANumber = []
-
--- An instruction that reads f of a line "consumes a line, newline included where there is one"; "a line either gives a
--- number or the step is skipped"; "6 BadInput (the line it would read is not UTF-8)".
+-- An instruction that reads f of a line "consumes a line, newline included where there is one"; "BadInput (the line it
+-- would read is not UTF-8)". The number of that stop is `statusOf` of machine's specs/Machine.antt.
 pub data Takes (f : List ℕ → Number) (s : List ℕ) (at : ℕ) (r : Taken) : Type 0 where
-  reads : (cs : List ℕ) → Utf8 (lineAt s at) cs → numbered r ≡ numbers 0 (lineEnd s at ∷ []) → pushed r ≡ values (f cs) → Takes f s at r
-  bad : (Valid (lineAt s at) → ⊥) → numbered r ≡ numbers 6 (0 ∷ []) → pushed r ≡ [] → Takes f s at r
+  reads : (cs : List ℕ) → Utf8 (lineAt s at) cs → r ≡ given (f cs) (lineEnd s at) → Takes f s at r
+  bad : (Valid (lineAt s at) → ⊥) → r ≡ BadInput → Takes f s at r

@@ -1,9 +1,10 @@
 -- "a sign or none and one or more ASCII digits in i64". Assumes nothing.
-use Prim.Native.Nat.{ℕ, _+_, _*_, _-_, _^_}
+use Prim.Native.Nat.{ℕ, _-_, _^_}
 use mathlib.Core.Bool.{Bool, true, false, _&&_, cond}
 use mathlib.Core.List.{List, [], _∷_}
 use lib.Dec.{leb, eqb}
 use lib.IntN.{ℤ, pos, negℤ}
+use Rattle.base.specs.Text.{valueAfter}
 use Rattle.text.specs.Range.{within}
 use Rattle.text.specs.declared.number.Number.{Number}
 use Rattle.text.specs.declared.number.Number.the-variants.{Value, NotANumber}
@@ -20,14 +21,9 @@ unfoldable pub numeral : List ℕ → Bool
 numeral [] = false
 numeral (b ∷ bs) = digits (b ∷ bs)
 
--- the value of digits that stand after a number n
-unfoldable pub onward : ℕ → List ℕ → ℕ
-onward n [] = n
-onward n (b ∷ bs) = onward (n * 10 + (b - 0x30)) bs
-
 -- the value of a numeral, where it is no more than the limit
 unfoldable pub magnitudeOf : ℕ → List ℕ → Magnitude
-magnitudeOf limit bs = cond (numeral bs && leb (onward 0 bs) limit) (Is (onward 0 bs)) Not
+magnitudeOf limit bs = cond (numeral bs && leb (valueAfter 0 bs) limit) (Is (valueAfter 0 bs)) Not
 
 -- the number that a sign makes of a value
 unfoldable pub sign : (ℕ → ℤ) → Magnitude → Number

@@ -7,10 +7,10 @@ use lib.Dec.{ltb, eqb}
 use lib.ListN.{length, getD, drop}
 use Rattle.text.specs.Line.{lineAt, lineEnd}
 use Rattle.text.specs.Utf8.{scalars, encodes}
+use Rattle.text.specs.Input.{given}
 use Rattle.text.specs.declared.number.Number.{Number}
-use Rattle.text.specs.declared.number.Number.the-variants.{Value, NotANumber}
 use Rattle.text.specs.declared.input.Taken.{Taken}
-use Rattle.text.specs.declared.input.Taken.the-variants.{Push, Skip, BadInput}
+use Rattle.text.specs.declared.input.Taken.the-variants.{BadInput}
 
 -- the code point that bytes begin with, if they begin with one, and the bytes after it
 unfoldable pub back : List ℕ → ℕ
@@ -44,11 +44,6 @@ same (a ∷ l) (b ∷ bs) = eqb a b && same l bs
 -- the candidate is made of scalars and has those bytes
 unfoldable pub valid : List ℕ → Bool
 valid s = scalars (reading s) && same s (encodes (reading s))
-
--- the value that a line gives is pushed, "or the step is skipped"
-unfoldable pub given : Number → ℕ → Taken
-given (Value v) n = Push v n
-given NotANumber n = Skip n
 
 -- what an instruction that reads f of a line takes
 unfoldable pub takeOf : (List ℕ → Number) → List ℕ → ℕ → Taken

@@ -88,3 +88,9 @@ pub record Carries (s : List ℕ) (i x : ℕ) : Type 0 where
 pub data TailAt (s : List ℕ) (i : ℕ) (r : Tail) : Type 0 where
   tail : (x : ℕ) → Carries s i x → r ≡ Bits x → TailAt s i r
   other : (i < length s → IsTail (getD s i 0) → ⊥) → r ≡ Other → TailAt s i r
+
+-- a first byte b with the bits `high`, after which so many continuation bytes follow; numbers below `least` need fewer
+pub data Leads (b high more least : ℕ) : Type 0 where
+  leads2 : b ≡ 0xC0 + high → high < 32 → more ≡ 1 → least ≡ 0x80 → Leads b high more least
+  leads3 : b ≡ 0xE0 + high → high < 16 → more ≡ 2 → least ≡ 0x800 → Leads b high more least
+  leads4 : b ≡ 0xF0 + high → high < 16 → more ≡ 3 → least ≡ 0x10000 → Leads b high more least

@@ -1,9 +1,9 @@
 // UTF-8: which bytes are characters. "BadInput (the line it would read is not UTF-8)" and "a Unicode scalar" of CharOut rest on it.
 ghost use mathlib.Core.Path.{_≡_};
-ghost use Prim.Native.Nat.{_+_, _<_};
+ghost use Prim.Native.Nat.{_<_};
 ghost use lib.ListN.{length, getD};
 ghost use Rattle.base.specs.Decides.{Decides};
-ghost use Rattle.text.specs.Utf8.{scalar, Reads, TailAt, Valid};
+ghost use Rattle.text.specs.Utf8.{scalar, Leads, Reads, TailAt, Valid};
 
 // What stands at a place of the bytes.
 pub enum Decoded {
@@ -46,67 +46,31 @@ pub(crate) fn tail_at(s: &[u8], i: usize) -> Tail
     }
 }
 
-// A character of two bytes, whose first has the bits `high`. One that fits a single byte is overlong.
-fn decode2(s: &[u8], at: usize, high: u32) -> Decoded
-    requires { ⌜ (at < length (now s)) × (high < 32) × (getD (now s) at 0 ≡ 0xC0 + high) ⌝ }
+// A character whose first byte has the bits `high` and is followed by `more` continuation bytes. One that fits fewer bytes,
+// below `least`, is overlong.
+fn decode_long(s: &[u8], at: usize, high: u32, more: usize, least: u32) -> Decoded
+    requires { ⌜ (at < length (now s)) × Leads (getD (now s) at 0) high more least ⌝ }
     ensures { λ r. ⌜ Reads (now (s .entry)) at r ⌝ }
 {
-    let Tail::Bits(x) = tail_at(s, at + 1) else {
-        return Decoded::Bad;
-    };
-    let cp = high * 64 + x;
-    if cp < 0x80 {
+    let mut cp = high;
+    let mut i: usize = 0;
+    while i < more {
+        i += 1;
+        let Tail::Bits(x) = tail_at(s, at + i) else {
+            return Decoded::Bad;
+        };
+        cp = cp * 64 + x;
+    }
+    if cp < least {
         return Decoded::Bad;
     }
-    Decoded::Char { cp, next: at + 2 }
-}
-
-// A character of three bytes: neither overlong nor a surrogate.
-fn decode3(s: &[u8], at: usize, high: u32) -> Decoded
-    requires { ⌜ (at < length (now s)) × (high < 16) × (getD (now s) at 0 ≡ 0xE0 + high) ⌝ }
-    ensures { λ r. ⌜ Reads (now (s .entry)) at r ⌝ }
-{
-    let Tail::Bits(x) = tail_at(s, at + 1) else {
-        return Decoded::Bad;
-    };
-    let Tail::Bits(y) = tail_at(s, at + 2) else {
-        return Decoded::Bad;
-    };
-    let cp = high * 4096 + x * 64 + y;
-    if cp < 0x800 {
-        return Decoded::Bad;
+    if is_scalar(cp) {
+        return Decoded::Char {
+            cp,
+            next: at + more + 1,
+        };
     }
-    if cp < 0xD800 {
-        return Decoded::Char { cp, next: at + 3 };
-    }
-    if cp < 0xE000 {
-        return Decoded::Bad;
-    }
-    Decoded::Char { cp, next: at + 3 }
-}
-
-// A character of four bytes: neither overlong nor past the last code point.
-fn decode4(s: &[u8], at: usize, high: u32) -> Decoded
-    requires { ⌜ (at < length (now s)) × (high < 16) × (getD (now s) at 0 ≡ 0xF0 + high) ⌝ }
-    ensures { λ r. ⌜ Reads (now (s .entry)) at r ⌝ }
-{
-    let Tail::Bits(x) = tail_at(s, at + 1) else {
-        return Decoded::Bad;
-    };
-    let Tail::Bits(y) = tail_at(s, at + 2) else {
-        return Decoded::Bad;
-    };
-    let Tail::Bits(z) = tail_at(s, at + 3) else {
-        return Decoded::Bad;
-    };
-    let cp = high * 262144 + x * 4096 + y * 64 + z;
-    if cp < 0x10000 {
-        return Decoded::Bad;
-    }
-    if 0x10FFFF < cp {
-        return Decoded::Bad;
-    }
-    Decoded::Char { cp, next: at + 4 }
+    Decoded::Bad
 }
 
 // The character at `at`: its first byte says how many bytes it has.
@@ -127,12 +91,12 @@ pub fn decode(s: &[u8], at: usize) -> Decoded
         return Decoded::Bad;
     }
     if b < 0xE0 {
-        return decode2(s, at, b - 0xC0);
+        return decode_long(s, at, b - 0xC0, 1, 0x80);
     }
     if b < 0xF0 {
-        return decode3(s, at, b - 0xE0);
+        return decode_long(s, at, b - 0xE0, 2, 0x800);
     }
-    decode4(s, at, b - 0xF0)
+    decode_long(s, at, b - 0xF0, 3, 0x10000)
 }
 
 // Whether the bytes are UTF-8: characters one after another, to the end.

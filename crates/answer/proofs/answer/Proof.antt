@@ -1,6 +1,7 @@
 -- `answer::answer` meets its contract: too little room, no job, or a job that is run.
 -- Assumes nothing.
 use mathlib.Core.Path.{refl}
+use Rattle.job.proofs.Only.{accepted-reads, refused-none}
 use Rattle.answer.specs.Answer.{no-job, short, printed}
 use Rattle.answer.proofs.Answering.{prints}
 use borrow.Author.Needs.{needs}
@@ -28,10 +29,10 @@ same-length c = search needs
 returns-2 : tie.Need-returns-2
 returns-2 c =
     printed (c .before .before .before .before .before .before .before .if1 .left)
-    (prints (no-job (rw (c .before .before .before .before .enum-told .given .1) at (c .before .before .before .before .before .before .read-job .ensures))) (c .before .before .put-refusal .ensures))
+    (prints (no-job (refused-none (rw (c .before .before .before .before .enum-told .given .1) at (c .before .before .before .before .before .before .read-job .ensures)))) (c .before .before .put-refusal .ensures))
 
 run-job-requires : tie.Need-run-job-requires
-run-job-requires c κs = (c .before .before .before .before .before .if1 .left, rw (c .before .before .p .given .1) at (c .before .before .before .before .read-job .ensures))
+run-job-requires c κs = (c .before .before .before .before .before .if1 .left, accepted-reads (rw (c .before .before .p .given .1) at (c .before .before .before .before .read-job .ensures)))
 
 same-length-2 : tie.Need-same-length-2
 same-length-2 c = search needs

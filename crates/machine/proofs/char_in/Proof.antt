@@ -3,6 +3,7 @@ use borrow.Author.Needs.{needs}
 use denote.Ref.{now}
 use Rattle.text.proofs.ReadingLaws.{takes-is}
 use Rattle.text.specs.Input.{charOf}
+use Rattle.machine.specs.Machine.{given}
 use Rattle.machine.proofs.Executing.{waits}
 use Rattle.machine.proofs.Executing as Law
 use Rattle.machine.proofs.char_in.Statement.{statement}
@@ -15,9 +16,9 @@ returns : tie.Need-returns
 returns c =
     λ kinds values h.
     let s = c .before .before .before in
-    rw (c .before .if1 .taken, c .at-wait .ensures)
+    rw (c .at-wait .ensures)
     (waits (now (s .args .stack)) kinds values (s .args .at) (record { lies = s .pre .0; holds = h; valid = s .pre .1 }) charOf
-    (now (s .args .input)))
+    (given (s .args .terms) (now (s .args .input))) (c .before .if1 .taken))
 
 char-in-requires : tie.Need-char-in-requires
 char-in-requires c κs = search needs
@@ -32,9 +33,9 @@ returns-2 : tie.Need-returns-2
 returns-2 c =
     let s = c .before .before .before .before .before .before in
     let t = c .before .before .char-in in
-    rw (c .before .before .before .before .if1 .left)
-    (Law.reads charOf (now (s .args .input)) (t .result) (now (s .args .stack)) (c .before .take .last .0) (s .args .at)
-    (c .before .take .result) (takes-is charOf (now (s .args .input)) (s .args .at .used) (t .result) (t .ensures)) (c .before .take .ensures))
+    Law.reads charOf (given (s .args .terms) (now (s .args .input))) (t .result) (now (s .args .stack)) (c .before .take .last .0) (s .args .at)
+    (c .before .take .result) (c .before .before .before .before .if1 .left)
+    (takes-is charOf (now (s .args .input)) (s .args .at .reading .used) (t .result) (t .ensures)) (c .before .take .ensures)
 
 pub char-in-spec : {M : Type 1} → statement M
 char-in-spec =

@@ -1,15 +1,11 @@
 -- `machine::flip_chooser` meets its contract. Assumes nothing.
-use mathlib.Core.Path.{_≡_, _∙_}
-use Prim.Native.Nat.{_-_}
 use native.Mathlib.Omega.{arith}
 use borrow.Author.Needs.{needs}
-use lib.ListN.{getD}
-use lib.IntN.{pos}
 use denote.Ref.{now}
 use Rattle.word.proofs.Signed.{back}
 use Rattle.flow.proofs.Order.{valid-switched}
 use Rattle.flow.specs.Pointer.{switched}
-use Rattle.machine.proofs.Executing.{unturned, turned, by-top}
+use Rattle.machine.proofs.Executing.{unturned, turned}
 use Rattle.machine.proofs.flip_chooser.Statement.{statement}
 use Rattle.machine.proofs.flip_chooser.Tie as tie
 
@@ -49,15 +45,11 @@ returns-2 c =
     λ kinds values h.
     let s = c .before .before .before .before .before .before .before .before .before in
     let q = c .before .before .before .before .before .pop in
-    let a = getD (now (s .args .stack)) (s .args .at .depth - 1) (pos 0) in
-    let e : c .before .switch .result ≡ switched (s .args .at .pointers) a =
-    rw (back a (c .before .before .before .before .before .before .before .n .given)) at (c .before .switch .ensures) in
     let some = c .before .before .before .before .before .before .before .before .if1 .left in
     rw (c .at-pointers .ensures, c .before .before .at-depth .ensures)
-    (turned (now (s .args .stack)) kinds values (s .args .at) (record { lies = s .pre .0; holds = h; valid = s .pre .1 }) switched
-    (q .last .0) (q .result) (c .before .switch .result) (q .ensures) (q .kept .0)
-    (e ∙ by-top switched (s .args .at .pointers) (now (s .args .stack)) (s .args .at .depth) (omega (arith, some)))
-    (rw e (valid-switched (s .args .at .pointers) a (s .pre .1))))
+    (turned (now (s .args .stack)) kinds values (s .args .at) (record { lies = s .pre .0; holds = h; valid = s .pre .1 }) switched valid-switched
+    (q .last .0) (q .result) (c .before .switch .result) (q .ensures) (q .kept .0) (omega (arith, some))
+    (rw (back _ (c .before .before .before .before .before .before .before .n .given)) at (c .before .switch .ensures)))
 
 pub flip-chooser-spec : {M : Type 1} → statement M
 flip-chooser-spec =

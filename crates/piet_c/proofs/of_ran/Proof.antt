@@ -4,24 +4,24 @@ use borrow.Author.Needs.{needs}
 use Rattle.piet_c.proofs.of_ran.Statement.{statement}
 use Rattle.piet_c.proofs.of_ran.Tie as tie
 
-enum-told : tie.Need-enum-told
-enum-told c = search needs
-
 enum-known-r : tie.Need-enum-known-r
 enum-known-r c = search needs
+
+enum-known-r-2 : tie.Need-enum-known-r-2
+enum-known-r-2 c = search needs
 
 of-ended-requires : tie.Need-of-ended-requires
 of-ended-requires c κs = search needs
 
 returns : tie.Need-returns
 unfolding running.numbered
-returns c = rw (c .enum-told .given .1)
+returns c = rw (c .before .r .given .1)
 
 returns-2 : tie.Need-returns-2
 unfolding running.numbered
 returns-2 c =
-    let the-r = c .before .before .r in
+    let the-r = c .before .before .r2 in
     rw (the-r .given .1) (c .of-ended .ensures)
 
 pub of-ran-spec : {M : Type 1} → statement M
-of-ran-spec = tie.close (tie.spec enum-told enum-known-r of-ended-requires returns returns-2)
+of-ran-spec = tie.close (tie.spec enum-known-r enum-known-r-2 of-ended-requires returns returns-2)

@@ -28,9 +28,16 @@ unfolding int
 unsigned (pos k) n e h = rw h
 unsigned (negsuc k) n e h = absurd (let z : _≡_ {A = ℕ} 0 1 = cc in omega arith)
 
-below : (c : tie.Then1) → let s = c .before .before .before in int (s .args .v) ≡ ascii "-" ++ decimal (c .before .abs .result)
+-- from where the sign was tested back to the start, and from where a sign was written to that
+abbrev begin : tie.Then1 → tie.Start
+begin c = c .before .before .before
+
+abbrev tested : tie.After-put-word → tie.Then1
+tested c = c .before .before .before
+
+below : (c : tie.Then1) → let s = begin c in int (s .args .v) ≡ ascii "-" ++ decimal (c .before .abs .result)
 below c =
-    let s = c .before .before .before in
+    let s = begin c in
     let e = toZ-ofZ w64 (s .args .v) (s .fits .v) in
     signed (s .args .v) (c .before .abs .result) (rw e at (c .if1 .taken)) (rw e at (c .before .abs .ensures))
 
@@ -48,21 +55,26 @@ slice-aggregate-put-word c = search needs
 
 put-word-requires : tie.Need-put-word-requires
 put-word-requires c κs =
-    let h = rw (below (c .before .before)) at (c .before .before .before .before .before .pre) in
-    room-front (ascii "-") (decimal (c .before .before .before .abs .result)) h
+    let t = c .before .before in
+    let h = rw (below t) at (begin t .pre) in
+    room-front (ascii "-") (decimal (t .before .abs .result)) h
 
 put-number-requires : tie.Need-put-number-requires
 put-number-requires c κs =
-    let h = rw (below (c .before .before .before .before .before .before)) at (c .before .before .before .before .before .before .before .before .before .pre) in
-    room-back (ascii "-") (decimal (c .before .before .before .before .before .before .before .abs .result)) h (c .before .before .before .put-word .ensures)
+    let p = c .before .before .before in
+    let t = tested p in
+    let h = rw (below t) at (begin t .pre) in
+    room-back (ascii "-") (decimal (t .before .abs .result)) h (p .put-word .ensures)
 
 same-length : tie.Need-same-length
 same-length c = search needs
 
 returns : tie.Need-returns
 returns c =
-    let h = rw (below (c .before .before .before .before .before .before .before .before .before)) at (c .before .before .before .before .before .before .before .before .before .before .before .before .pre) in
-    rw (below (c .before .before .before .before .before .before .before .before .before)) (put-then h (c .before .before .before .before .before .before .put-word .ensures) (c .before .before .put-number .ensures))
+    let p = c .before .before .before .before .before .before in
+    let t = tested p in
+    let h = rw (below t) at (begin t .pre) in
+    rw (below t) (put-then h (p .put-word .ensures) (c .before .before .put-number .ensures))
 
 put-number-requires-2 : tie.Need-put-number-requires-2
 put-number-requires-2 c κs = rw (above (c .before)) at (c .before .before .before .before .pre)

@@ -22,6 +22,13 @@ Inv-loop out₀ at kinds numbers count next₀ i₀ out next i =
 abbrev μ-loop : tie.MeasureT-loop
 μ-loop out₀ at kinds numbers count next₀ i₀ out next i = count - i
 
+-- from the loop's test back to the start, and from where an output was written to the test
+abbrev begin : tie.At-loop Inv-loop μ-loop → tie.Start Inv-loop μ-loop
+begin c = c .before .before .before
+
+abbrev turn : tie.After-put-item Inv-loop μ-loop → tie.In-loop Inv-loop μ-loop
+turn c = c .before .before .before .before
+
 loop-holds : tie.Need-loop-holds Inv-loop μ-loop
 unfolding items outsOf
 loop-holds c = (omega arith, wrote (put-none _ _) 0 (omega arith))
@@ -53,16 +60,18 @@ loop-less c = omega arith
 
 loop-again : tie.Need-loop-again Inv-loop μ-loop
 loop-again c =
-    let s = c .before .before .before .before .before .before .before .before .before .before in
+    let p = c .before .before in
+    let w = turn p in
+    let s = begin (w .before) in
     let a = s .args in
-    let l = c .before .before .before .before .before .before .before .loop in
+    let l = w .before .loop in
     let h = s .pre .1 in
     let k = l .inv .0 in
-    let t = c .before .before .before .before .before .before .loop-test .taken in
+    let t = w .loop-test .taken in
     let x = getD (a .numbers .now) (l .i) (pos 0) in
-    let e = toZ-ofZ w64 x (record { sfits = c .before .before .before .put-item-arg2 .given }) in (
+    let e = toZ-ofZ w64 x (record { sfits = p .before .put-item-arg2 .given }) in (
       omega arith,
-      widen (rw (items-turn (a .kinds .now) (a .numbers .now) (l .i)) at (wrote-then (l .inv .1) (rw e at (c .before .before .put-item .ensures)) (omega arith))) (22 * (l .i + 1)) (omega arith),
+      widen (rw (items-turn (a .kinds .now) (a .numbers .now) (l .i)) at (wrote-then (l .inv .1) (rw e at (p .put-item .ensures)) (omega arith))) (22 * (l .i + 1)) (omega arith),
     )
 
 same-length : tie.Need-same-length Inv-loop μ-loop

@@ -10,6 +10,10 @@ use borrow.Author.Needs.{needs}
 use Rattle.report.proofs.put_value.Statement.{statement}
 use Rattle.report.proofs.put_value.Tie as tie
 
+-- from where the space was written back to the start
+abbrev begin : tie.After-put-word → tie.Start
+begin c = c .before .before .before .before
+
 slice-aggregate-put-word : tie.Need-slice-aggregate-put-word
 slice-aggregate-put-word c = search needs
 
@@ -18,11 +22,12 @@ put-word-requires c κs = search needs
 
 put-int-requires : tie.Need-put-int-requires
 put-int-requires c κs =
-    let s = c .before .before .before .before .before .before .before in
+    let p = c .before .before .before in
+    let s = begin p in
     let v = s .args .v in
     let e = toZ-ofZ w64 v (s .fits .v) in
     let h = s .pre in
-    let w1 = wrote (c .before .before .before .put-word .ensures) 1 (omega arith) in
+    let w1 = wrote (p .put-word .ensures) 1 (omega arith) in
     rw e (room-of (int v) 20 (int-long v (s .fits .v .sfits)) (wrote-room 20 w1 (omega (arith, h))))
 
 same-length : tie.Need-same-length
@@ -31,13 +36,14 @@ same-length c = search needs
 returns : tie.Need-returns
 unfolding value
 returns c =
-    let s = c .before .before .before .before .before .before .before .before .before .before in
+    let p = c .before .before .before .before .before .before in
+    let s = begin p in
     let v = s .args .v in
     let e = toZ-ofZ w64 v (s .fits .v) in
     let h = s .pre in
-    let w1 = wrote (c .before .before .before .before .before .before .put-word .ensures) 1 (omega arith) in
+    let w1 = wrote (p .put-word .ensures) 1 (omega arith) in
     let w2 = wrote-then w1 (wrote (rw e at (c .before .before .put-int .ensures)) 20 (int-long v (s .fits .v .sfits))) (omega (arith, h)) in
-    widen w2 (21) (omega arith)
+    widen w2 21 (omega arith)
 
 pub put-value-spec : {M : Type 1} → statement M
 put-value-spec =

@@ -76,10 +76,12 @@ put-number-put-digit-requires-2 : (t : ℕ) → put-number-lts.Need-put-digit-re
   put-number.Post,
 ) (put-number-at t) put-number.Post
 put-number-put-digit-requires-2 t c κs =
-    let s = c .before .before .before .before .before .before .before in
+    let tenth = c .before .before .before in
+    let large = tenth .before .before in
+    let s = large .before .before in
     let n = s .args .n in
-    let e = ap length (decimal-more n (c .before .before .before .before .before .if1 .left)) ∙ length-append (decimal (n / 10)) ((48 + n % 10) ∷ []) in
-    let p = c .before .before .before .put-number .ensures in
+    let e = ap length (decimal-more n (large .if1 .left)) ∙ length-append (decimal (n / 10)) ((48 + n % 10) ∷ []) in
+    let p = tenth .put-number .ensures in
     (omega arith, omega (arith, e, s .pre .1, p .next, put-length (omega (arith, e, s .pre .1)) p))
 
 put-number-same-length-2 : (t : ℕ) → put-number-lts.Need-same-length-2 (
@@ -97,11 +99,13 @@ put-number-returns-2 : (t : ℕ) → put-number-lts.Need-returns-2 (
   put-number.Post,
 ) (put-number-at t) put-number.Post
 put-number-returns-2 t c =
-    let s = c .before .before .before .before .before .before .before .before .before .before in
+    let tenth = c .before .before .before .before .before .before in
+    let large = tenth .before .before in
+    let s = large .before .before in
     let n = s .args .n in
-    let e = ap length (decimal-more n (c .before .before .before .before .before .before .before .before .if1 .left)) ∙ length-append (decimal (n / 10)) ((48 + n % 10) ∷ []) in
-    rw (decimal-more n (c .before .before .before .before .before .before .before .before .if1 .left))
-    (put-put (omega (arith, e, s .pre .1)) (c .before .before .before .before .before .before .put-number .ensures) (c .before .before .put-digit2 .ensures))
+    let e = ap length (decimal-more n (large .if1 .left)) ∙ length-append (decimal (n / 10)) ((48 + n % 10) ∷ []) in
+    rw (decimal-more n (large .if1 .left))
+    (put-put (omega (arith, e, s .pre .1)) (tenth .put-number .ensures) (c .before .before .put-digit2 .ensures))
 
 pub +put-number-spec : {M : Type 1} → statement M
 +put-number-spec = close μ-put-number λ t. put-number-lts.spec (

@@ -1,6 +1,6 @@
 -- `colour::classify::check` meets its contract: the tests come in the order of the table of refusals, and each return says which of its rows hold and fail.
 -- Assumes nothing.
-use mathlib.Core.Path.{_≡_}
+use mathlib.Core.Path.{_≡_, _∙_, sym}
 use mathlib.Core.Bool.{false, _||_}
 use Prim.Native.Nat.{_*_, _≤_, _<_}
 use native.Mathlib.Omega.{arith}
@@ -14,27 +14,26 @@ use borrow.Author.Needs.{needs}
 use Rattle.colour.proofs.classify.check.Statement.{statement}
 use Rattle.colour.proofs.classify.check.Tie as tie
 
+-- from where both sides are right back to the start
+abbrev begin : tie.Else2 → tie.Start
+begin c = c .before .before .before .before .before
+
 -- both sides are right
 sides : (c : tie.Else2)
-    → (wrongSide (c .before .before .before .before .before .args .height) || wrongSide (c .before .before .before .before .before .args .width)) ≡ false
+    → (wrongSide (begin c .args .height) || wrongSide (begin c .args .width)) ≡ false
 sides c =
-    rw (
-      ← c .before .before .before .wrong-side .ensures,
-      c .before .before .if1 .left,
-      ← c .before .wrong-side2 .ensures,
-      c .if2 .left,
-    )
+    let h : wrongSide (begin c .args .height) ≡ false = sym (c .before .before .before .wrong-side .ensures) ∙ c .before .before .if1 .left in
+    let w : wrongSide (begin c .args .width) ≡ false = sym (c .before .wrong-side2 .ensures) ∙ c .if2 .left in
+    rw (h, w)
 
-wide : (c : tie.Else2)
-    → (0 < c .before .before .before .before .before .args .width) × (c .before .before .before .before .before .args .width ≤ 1024)
+wide : (c : tie.Else2) → (0 < begin c .args .width) × (begin c .args .width ≤ 1024)
 wide c =
-    let a = c .before .before .before .before .before .args in
+    let a = begin c .args in
     side (a .width) (neither (wrongSide (a .height)) (wrongSide (a .width)) (sides c) .1)
 
-room : (c : tie.Else2)
-    → c .before .before .before .before .before .args .height * c .before .before .before .before .before .args .width ≤ 1048576
+room : (c : tie.Else2) → begin c .args .height * begin c .args .width ≤ 1048576
 room c =
-    let a = c .before .before .before .before .before .args in
+    let a = begin c .args in
     area (side (a .height) (neither _ (wrongSide (a .width)) (sides c) .0) .1) (wide c .1)
 
 wrong-side-requires : tie.Need-wrong-side-requires
@@ -72,8 +71,9 @@ returns-5 c = rw (sides (c .before .before .before), le-ltb _ _ (c .before .befo
 returns-6 : tie.Need-returns-6
 unfolding answer refusals unknownPixel first
 returns-6 c =
-    let a = c .before .before .before .before .before .before .before .before .before .args in
-    rw (sides (c .before .before .before .before), le-ltb _ _ (c .before .before .before .if3 .left), eq-eqb _ _ (c .before .before .if4 .left), le-ltb _ _ (c .before .if5 .left), le-ltb (a .setting) 2 (omega arith))
+    let e = c .before .before .before .before in
+    let a = begin e .args in
+    rw (sides e, le-ltb _ _ (c .before .before .before .if3 .left), eq-eqb _ _ (c .before .before .if4 .left), le-ltb _ _ (c .before .if5 .left), le-ltb (a .setting) 2 (omega arith))
 
 first-unknown-requires : tie.Need-first-unknown-requires
 first-unknown-requires c κs = (c .before .before .if4 .left, wide (c .before .before .before .before) .0)
@@ -81,8 +81,9 @@ first-unknown-requires c κs = (c .before .before .if4 .left, wide (c .before .b
 returns-7 : tie.Need-returns-7
 unfolding answer refusals unknownPixel first
 returns-7 c =
-    let a = c .before .before .before .before .before .before .before .before .before .before .args in
-    rw (sides (c .before .before .before .before .before), le-ltb _ _ (c .before .before .before .before .if3 .left), eq-eqb _ _ (c .before .before .before .if4 .left), le-ltb _ _ (c .before .before .if5 .left), lt-ltb (a .setting) 2 (omega arith)) (c .first-unknown .ensures)
+    let e = c .before .before .before .before .before in
+    let a = begin e .args in
+    rw (sides e, le-ltb _ _ (c .before .before .before .before .if3 .left), eq-eqb _ _ (c .before .before .before .if4 .left), le-ltb _ _ (c .before .before .if5 .left), lt-ltb (a .setting) 2 (omega arith)) (c .first-unknown .ensures)
 
 pub check-spec : {M : Type 1} → statement M
 check-spec =

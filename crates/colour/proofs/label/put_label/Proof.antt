@@ -9,6 +9,19 @@ use borrow.Author.Needs.{needs}
 use Rattle.colour.proofs.label.put_label.Statement.{statement}
 use Rattle.colour.proofs.label.put_label.Tie as tie
 
+-- from where a part was written back to where the one before it was, to the test, and to the start
+abbrev begin : tie.Else1 → tie.Start
+begin c = c .before .before .before
+
+abbrev tested : tie.After-put-name → tie.Else1
+tested c = c .before .before
+
+abbrev name-of : tie.After-put-place → tie.After-put-name
+name-of c = c .before .before .before .before
+
+abbrev row-of : tie.After-put-place2 → tie.After-put-place
+row-of c = c .before .before .before .before
+
 is-entry-requires : tie.Need-is-entry-requires
 is-entry-requires c κs = search needs
 
@@ -30,8 +43,9 @@ put-name-requires c κs = search needs
 
 put-place-requires : tie.Need-put-place-requires
 put-place-requires c κs =
-    let s = c .before .before .before .before .before .before .before .before in
-    let p = c .before .before .before .put-name .ensures in
+    let x = c .before .before .before in
+    let s = begin (tested x) in
+    let p = x .put-name .ensures in
     let n = name-length (s .args .colour) in
     let l = place-length (s .args .row) (s .pre .0 .0) in
     let k = put-length (omega (arith, n, s .pre)) p in
@@ -39,9 +53,11 @@ put-place-requires c κs =
 
 put-place-requires-2 : tie.Need-put-place-requires-2
 put-place-requires-2 c κs =
-    let s = c .before .before .before .before .before .before .before .before .before .before .before .before in
-    let p = c .before .before .before .before .before .before .before .put-name .ensures in
-    let q = c .before .before .before .put-place .ensures in
+    let y = c .before .before .before in
+    let x = name-of y in
+    let s = begin (tested x) in
+    let p = x .put-name .ensures in
+    let q = y .put-place .ensures in
     let n = name-length (s .args .colour) in
     let l = place-length (s .args .row) (s .pre .0 .0) in
     let m = place-length (s .args .column) (s .pre .0 .1) in
@@ -55,13 +71,17 @@ same-length-2 c = search needs
 returns-2 : tie.Need-returns-2
 unfolding labelOf
 returns-2 c =
-    let s = c .before .before .before .before .before .before .before .before .before .before .before .before .before .before .before in
+    let z = c .before .before in
+    let y = row-of z in
+    let x = name-of y in
+    let t = tested x in
+    let s = begin t in
     let n = name-length (s .args .colour) in
     let l = place-length (s .args .row) (s .pre .0 .0) in
     let e = length-append (name (s .args .colour)) (place (s .args .row)) in
-    rw (← c .before .before .before .before .before .before .before .before .before .before .before .before .before .is-entry .ensures, c .before .before .before .before .before .before .before .before .before .before .before .before .if1 .left)
-    (put-put (omega (arith, e, s .pre)) (put-put (omega (arith, s .pre)) (c .before .before .before .before .before .before .before .before .before .before .put-name .ensures) (c .before .before .before .before .before .before .put-place .ensures))
-    (c .before .before .put-place2 .ensures))
+    rw (← t .before .is-entry .ensures, t .if1 .left)
+    (put-put (omega (arith, e, s .pre)) (put-put (omega (arith, s .pre)) (x .put-name .ensures) (y .put-place .ensures))
+    (z .put-place2 .ensures))
 
 pub put-label-spec : {M : Type 1} → statement M
 put-label-spec =

@@ -11,6 +11,13 @@ use borrow.Author.Needs.{needs}
 use Rattle.colour.proofs.label.put_name.Statement.{statement}
 use Rattle.colour.proofs.label.put_name.Tie as tie
 
+-- from where the lightness was written back to the tests, and to the start
+abbrev tested : tie.After-put-lightness → tie.Else2
+tested c = c .before .before
+
+abbrev begin : tie.Else2 → tie.Start
+begin c = c .before .before .before
+
 slice-aggregate-put-word : tie.Need-slice-aggregate-put-word
 slice-aggregate-put-word c = search needs
 
@@ -42,8 +49,9 @@ put-lightness-requires c κs = search needs
 
 put-hue-requires : tie.Need-put-hue-requires
 put-hue-requires c κs =
-    let a = c .before .before .before .before .before .before .before .before .args in
-    let p = c .before .before .before .put-lightness in
+    let x = c .before .before .before in
+    let a = begin (tested x) .args in
+    let p = x .put-lightness in
     let l = lightness-length (a .colour / 6) in
     let n = p .ensures .next in
     omega (arith, put-length (omega arith) (p .ensures))
@@ -54,10 +62,11 @@ same-length-3 c = search needs
 returns-3 : tie.Need-returns-3
 unfolding name
 returns-3 c =
-    let a = c .before .before .before .before .before .before .before .before .before .before .before .args in
-    let l = lightness-length (a .colour / 6) in
-    rw (ne-eqb _ _ (c .before .before .before .before .before .before .before .before .before .if1 .left), ne-eqb _ _ (c .before .before .before .before .before .before .before .before .if2 .left))
-    (put-put (omega arith) (c .before .before .before .before .before .before .put-lightness .ensures) (c .before .before .put-hue .ensures))
+    let x = c .before .before .before .before .before .before in
+    let e = tested x in
+    let l = lightness-length (begin e .args .colour / 6) in
+    rw (ne-eqb _ _ (e .before .if1 .left), ne-eqb _ _ (e .if2 .left))
+    (put-put (omega arith) (x .put-lightness .ensures) (c .before .before .put-hue .ensures))
 
 pub put-name-spec : {M : Type 1} → statement M
 put-name-spec =

@@ -42,7 +42,7 @@ returns c =
     let the-built = c .before .before .before .before .before .before .before .before .before .before .before .built in
     let the-build = c .before .before .before .before .before .before .before .before .before .before .before .before .before .before .before .before .before .before .before .before .before .build in
     let the-run-table = c .before .before .before .before .run-table in
-    record { regions = the-built .given .0 .0; built = rw (the-built .given .1) at (the-build .ensures); ran = the-run-table .ensures }
+    record { regions = the-built .given .0 .0; built = rw (the-built .given .1) at (the-build .ensures); runs = the-run-table .ensures }
 
 same-length-8 : tie.Need-same-length-8
 same-length-8 c = search needs

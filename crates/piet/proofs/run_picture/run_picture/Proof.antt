@@ -9,6 +9,7 @@ use lib.ListN.{length, take}
 use lib.Seq.{length-take-le}
 use Rattle.base.proofs.Sides.{side, area}
 use Rattle.colour.specs.Classify.{coloursUnder}
+use Rattle.machine.specs.Machine.{Given, given}
 use Rattle.piet.specs.RunPicture.{Asked, Lends, asked, lends}
 use Rattle.piet.proofs.Refusing.{Accepted, accepted, refuses}
 use Rattle.piet.proofs.Drawing.{painted, painted-part, drawn}
@@ -17,8 +18,11 @@ use Rattle.piet.proofs.run_picture.run_picture.Statement.{statement}
 use Rattle.piet.proofs.run_picture.run_picture.Tie as tie
 
 -- what the call is given, and what it is lent
+abbrev what : (c : tie.Start) → Given
+what c = given (c .args .terms) (c .args .input .now)
+
 abbrev asks : (c : tie.Start) → Asked
-asks c = asked (c .args .pixels .now) (c .args .height) (c .args .width) (c .args .setting) (c .args .codel) (c .args .limit) (c .args .abstract-mode) (c .args .input .now)
+asks c = asked (c .args .pixels .now) (c .args .height) (c .args .width) (c .args .setting) (c .args .codel) (what c)
 
 abbrev has : (c : tie.Start) → Lends
 has c = lends (c .args .colours .now) (c .args .map .now) (c .args .rows .now) (c .args .exits .now) (c .args .work .now) (c .args .stack .now) (c .args .kinds .now) (c .args .values .now)
@@ -29,8 +33,7 @@ begun c = c .before .before .before .before .before .before .before .before .bef
 -- nothing is refused
 accepting : (c : tie.Else1) → Accepted (asks (begun c)) (has (begun c))
 accepting c =
-    let a = begun c .args in
-    accepted (asks (begun c)) (has (begun c)) (c .before .before .check .result .number) (c .before .before .check .result .row ∷ c .before .before .check .result .column ∷ []) (c .if1 .left) (c .before .before .check .ensures (a .limit) (a .abstract-mode) (a .input .now))
+    accepted (asks (begun c)) (has (begun c)) (c .before .before .check .result .number) (c .before .before .check .result .row ∷ c .before .before .check .result .column ∷ []) (c .if1 .left) (c .before .before .check .ensures (what (begun c)))
 
 -- the pixels fit into the colours as they are after classifying, and their colours stand there
 fits : (c : tie.After-classify) → let a = asks (begun (c .before .before)) in a .height * a .width ≤ length (c .classify .last .1 .1 .1 .1 .0)
@@ -46,8 +49,7 @@ returns : tie.Need-returns
 returns c =
     let start = c .before .before .before .before .before .before .before .before .before .before .before in
     let the-check = c .before .before .check in
-    let the-args = c .before .before .before .before .before .before .before .before .before .before .before .args in
-    refuses (asks start) (has start) (the-check .result .number) (the-check .result .row) (the-check .result .column) (c .if1 .taken) (the-check .ensures (the-args .limit) (the-args .abstract-mode) (the-args .input .now))
+    refuses (asks start) (has start) (the-check .result .number) (the-check .result .row) (the-check .result .column) (c .if1 .taken) (the-check .ensures (what start))
 
 classify-requires : tie.Need-classify-requires
 classify-requires c κs = search needs

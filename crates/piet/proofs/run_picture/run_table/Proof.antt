@@ -1,5 +1,6 @@
 -- `piet::run_picture::run_table` meets its contract.
 -- Assumes nothing.
+use mathlib.Core.Path.{refl}
 use borrow.Author.Needs.{needs}
 use Rattle.piet.proofs.run_picture.run_table.Statement.{statement}
 use Rattle.piet.proofs.run_picture.run_table.Tie as tie
@@ -10,8 +11,8 @@ run-requires c κs = search needs
 enum-known-e : tie.Need-enum-known-e
 enum-known-e c = search needs
 
-enum-told : tie.Need-enum-told
-enum-told c = search needs
+enum-known-number : tie.Need-enum-known-number
+enum-known-number c = search needs
 
 same-length : tie.Need-same-length
 same-length c = search needs
@@ -25,7 +26,7 @@ same-length-3 c = search needs
 returns : tie.Need-returns
 returns c =
     let the-run = c .before .before .before .before .before .before .before .run in
-    rw (c .before .e .given .1) at (the-run .ensures .0)
+    record { ran = the-run .result; is = rw (c .before .e .given .1) refl; outcome = the-run .ensures .0 }
 
 same-length-4 : tie.Need-same-length-4
 same-length-4 c = search needs
@@ -38,8 +39,8 @@ same-length-6 c = search needs
 
 returns-2 : tie.Need-returns-2
 returns-2 c =
-    let the-run = c .before .before .before .before .before .before .run in
-    rw (c .enum-told .given .1) at (the-run .ensures .0)
+    let the-run = c .before .before .before .before .before .before .before .run in
+    record { ran = the-run .result; is = rw (c .before .number .given .1) refl; outcome = the-run .ensures .0 }
 
 pub run-table-spec : {M : Type 1} → statement M
 run-table-spec =
@@ -47,7 +48,7 @@ run-table-spec =
     (tie.spec
     run-requires
     enum-known-e
-    enum-told
+    enum-known-number
     same-length
     same-length-2
     same-length-3

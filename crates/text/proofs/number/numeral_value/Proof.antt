@@ -6,14 +6,15 @@ use mathlib.Core.Path.{_≡_, refl, sym, ap, _∙_}
 use native.Mathlib.Omega.{arith}
 use borrow.Author.Needs.{needs}
 use lib.ListN.{length, drop}
-use Rattle.text.specs.Number.{digits, onward}
+use Rattle.base.specs.Text.{valueAfter}
+use Rattle.text.specs.Number.{digits}
 use Rattle.text.specs.declared.number.Magnitude.the-variants.{Is}
-use Rattle.text.proofs.NumberLaws.{digits-on, digits-low, digits-high, digits-end, onward-on, onward-end, onward-le, no-numeral, too-large, is-magnitude, empty-magnitude}
+use Rattle.text.proofs.NumberLaws.{digits-on, digits-low, digits-high, digits-end, value-on, value-end, value-le, no-numeral, too-large, is-magnitude, empty-magnitude}
 use Rattle.text.proofs.number.numeral_value.Statement.{statement}
 use Rattle.text.proofs.number.numeral_value.Tie as tie
 
 abbrev Inv-loop : tie.InvT-loop
-Inv-loop s limit n₀ i₀ n i = (i ≤ length s) × (n ≤ limit) × (digits s ≡ digits (drop i s)) × (onward 0 s ≡ onward n (drop i s))
+Inv-loop s limit n₀ i₀ n i = (i ≤ length s) × (n ≤ limit) × (digits s ≡ digits (drop i s)) × (valueAfter 0 s ≡ valueAfter n (drop i s))
 
 abbrev μ-loop : tie.MeasureT-loop
 μ-loop s limit n₀ i₀ n i = length s - i
@@ -56,8 +57,8 @@ returns-4 c =
     let s = z .args .s .now in
     let l = c .before .before .before .before .before .before in
     let w = c .before .before .before .wide in
-    let e = l .loop .inv .3 ∙ onward-on s (l .loop .i) (l .loop .n) (w .result) (omega arith) (w .ensures) in
-    sym (too-large (z .args .limit) s (omega (arith, onward-le (l .loop .n * 10 + (w .result - 0x30)) (drop (l .loop .i + 1) s))))
+    let e = l .loop .inv .3 ∙ value-on s (l .loop .i) (l .loop .n) (w .result) (omega arith) (w .ensures) in
+    sym (too-large (z .args .limit) s (omega (arith, value-le (l .loop .n * 10 + (w .result - 0x30)) (drop (l .loop .i + 1) s))))
 
 mul-n : tie.Need-mul-n Inv-loop μ-loop
 mul-n c = omega arith
@@ -80,7 +81,7 @@ loop-again c =
       omega arith,
       omega arith,
       l .loop .inv .2 ∙ digits-on s (l .loop .i) (omega arith) (omega arith) (omega arith),
-      l .loop .inv .3 ∙ onward-on s (l .loop .i) (l .loop .n) (w .result) (omega arith) (w .ensures),
+      l .loop .inv .3 ∙ value-on s (l .loop .i) (l .loop .n) (w .result) (omega arith) (w .ensures),
     )
 
 returns-5 : tie.Need-returns-5 Inv-loop μ-loop
@@ -88,7 +89,7 @@ returns-5 c =
     let z = c .before .before .before .before in
     let s = z .args .s .now in
     let l = c .before in
-    let e : onward 0 s ≡ l .loop .n = l .loop .inv .3 ∙ onward-end s (l .loop .i) (l .loop .n) (c .loop-test .left) in
+    let e : valueAfter 0 s ≡ l .loop .n = l .loop .inv .3 ∙ value-end s (l .loop .i) (l .loop .n) (c .loop-test .left) in
     let d = l .loop .inv .2 ∙ digits-end s (l .loop .i) (c .loop-test .left) in
     sym (is-magnitude (z .args .limit) s (omega arith) d (omega arith) ∙ ap Is e)
 

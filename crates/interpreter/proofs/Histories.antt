@@ -1,0 +1,152 @@
+-- The history of a run.
+--     run-history      a run comes to its end by a list of exits that is as long as the steps made
+--     history-only     so many exits from one place are one list, and lead to one place
+--     history-ends     where they lead is the last of the regions entered
+--     never-max        a step never halts with MaxSteps
+--     at-limit         MaxSteps comes exactly at the limit
+--     run-limit        what is given as the limit is not looked at on the way
+-- Assumes nothing.
+use mathlib.Core.Path.{_≡_, refl, sym, ap, subst, _∙_}
+use mathlib.Core.Bool.{Bool, true, false, cond}
+use mathlib.Core.Logic.{_⊎_, inl, inr}
+use mathlib.Core.List.{List, [], _∷_, map}
+use Prim.Native.Nat.{ℕ, zero, suc, _+_, _<_}
+use native.Mathlib.Omega.{arith}
+use lib.Dec.{eqb}
+use lib.ListN.{length, getD}
+use Rattle.base.proofs.Clash.{clash}
+use Rattle.machine.specs.declared.Stop.{Stop}
+use Rattle.machine.specs.declared.Stop.the-variants.{Completed, MaxSteps, NeedsInput}
+use Rattle.machine.specs.Machine.{underLimit, Out, keeps, stops, fitting}
+use Rattle.machine.specs.Place.{Machine}
+use Rattle.machine.proofs.Fitting.{fit-stops, not-limit, exec-limit}
+use Rattle.table.specs.ExitNumber.{targetOf}
+use Rattle.interpreter.specs.Run.{Job, Went, goes, halts, arrive, exitFrom, effectOf, through, leave, stepOf, after, runOf}
+use Rattle.interpreter.specs.History.{Passes, stays, passes, History, regionsOf}
+
+-- what a step that is taken came to
+pub record Kept (j : Job) (m m′ : Machine) : Type 0 where
+  pub unawaited : m .store .reading .awaiting ≡ false
+  pub some : eqb (exitFrom j m) 0 ≡ false
+  pub store : fitting (j .room) (effectOf j (exitFrom j m) m) ≡ keeps (m′ .store)
+  pub region : m′ .region ≡ targetOf (exitFrom j m)
+  pub counted : m′ .steps ≡ m .steps + 1
+
+-- and one that is not: input is awaited, no attempt is open, or the instruction is not kept
+pub data Halts (j : Job) (m : Machine) : Stop → Type 0 where
+  awaits : m .store .reading .awaiting ≡ true → Halts j m NeedsInput
+  ends : m .store .reading .awaiting ≡ false → eqb (exitFrom j m) 0 ≡ true → Halts j m Completed
+  barred : {s : Stop} → m .store .reading .awaiting ≡ false → eqb (exitFrom j m) 0 ≡ false
+      → fitting (j .room) (effectOf j (exitFrom j m) m) ≡ stops s → Halts j m s
+
+pub data Stepped (j : Job) (m : Machine) : Went → Type 0 where
+  kept : {m′ : Machine} → Kept j m m′ → Stepped j m (goes m′)
+  halted : {s : Stop} → Halts j m s → Stepped j m (halts s)
+
+module _ (j : Job) where
+  arrived : (m : Machine) → m .store .reading .awaiting ≡ false → eqb (exitFrom j m) 0 ≡ false
+      → (o : Out) → fitting (j .room) (effectOf j (exitFrom j m) m) ≡ o → Stepped j m (arrive (exitFrom j m) m o)
+  unfolding arrive
+  arrived m a q (keeps s) e = kept (record { unawaited = a; some = q; store = e; region = refl; counted = refl })
+  arrived m a q (stops s) e = halted (barred a q e)
+
+  -- a step by its cases
+  pub step-cases : (m : Machine) → Stepped j m (stepOf j m)
+  step-cases m = waits (m .store .reading .awaiting) refl
+    where
+      opens : m .store .reading .awaiting ≡ false → (t : Bool) → eqb (exitFrom j m) 0 ≡ t
+          → Stepped j m (cond t (halts Completed) (through j (exitFrom j m) m))
+      opens a true q = halted (ends a q)
+      opens a false q = arrived m a q (fitting (j .room) (effectOf j (exitFrom j m) m)) refl
+
+      waits : (t : Bool) → m .store .reading .awaiting ≡ t → Stepped j m (cond t (halts NeedsInput) (leave j (exitFrom j m) m))
+      waits true a = halted (awaits a)
+      waits false a = opens a (eqb (exitFrom j m) 0) refl
+
+  pub step-kept : (m m′ : Machine) → stepOf j m ≡ goes m′ → Kept j m m′
+  step-kept m m′ e = go (stepOf j m) (step-cases m) e
+    where
+      go : (x : Went) → Stepped j m x → x ≡ goes m′ → Kept j m m′
+      go (goes n) (kept k) e = let z : n ≡ m′ = cc in subst (Kept j m) z k
+      go (halts s) (halted h) e = clash cc
+
+  pub step-halts : (m : Machine) {s : Stop} → stepOf j m ≡ halts s → Halts j m s
+  step-halts m {s} e = go (stepOf j m) (step-cases m) e
+    where
+      go : (x : Went) → Stepped j m x → x ≡ halts s → Halts j m s
+      go (goes n) (kept k) e = clash cc
+      go (halts t) (halted h) e = let z : t ≡ s = cc in subst (Halts j m) z h
+
+  pub never-max : (m : Machine) → stepOf j m ≡ halts MaxSteps → ⊥
+  never-max m e = go (step-halts m e) refl
+    where
+      go : {s : Stop} → Halts j m s → s ≡ MaxSteps → ⊥
+      go (awaits a) q = clash cc
+      go (ends a b) q = clash cc
+      go (barred a b k) q = not-limit (fit-stops (j .room) (effectOf j (exitFrom j m) m) k) q
+
+  pub run-history : (k : ℕ) (m : Machine) → History j k m (runOf j k m)
+  unfolding runOf after
+  run-history zero m = record { exits = []; passes = stays; counted = omega arith; within = omega arith; why = inl (refl, refl) }
+  run-history (suc k) m = go (stepOf j m) refl (run-history k)
+    where
+      longer : {s : Stop} (m′ : Machine) (c : ℕ)
+          → ((s ≡ MaxSteps) × (c ≡ k)) ⊎ ((stepOf j m′ ≡ halts s) × (c < k))
+          → ((s ≡ MaxSteps) × (suc c ≡ suc k)) ⊎ ((stepOf j m′ ≡ halts s) × (suc c < suc k))
+      longer m′ c (inl p) = inl (p .0, ap suc (p .1))
+      longer m′ c (inr p) = inr (p .0, omega (arith, p .1))
+
+      go : (x : Went) → stepOf j m ≡ x → ((m′ : Machine) → History j k m′ (runOf j k m′)) → History j (suc k) m (after (runOf j k) m x)
+      go (goes m′) e f =
+          let r = f m′ in
+          record {
+            exits = exitFrom j m ∷ r .exits;
+            passes = passes e (r .passes);
+            counted = omega (arith, r .counted, step-kept m m′ e .counted);
+            within = omega (arith, r .within);
+            why = longer (runOf j k m′ .at) (length (r .exits)) (r .why);
+          }
+      go (halts s) e f = record { exits = []; passes = stays; counted = omega arith; within = omega arith; why = inr (e, omega arith) }
+
+  pub history-only : {m m′ m″ : Machine} {ws ws′ : List ℕ} → Passes j m ws m′ → Passes j m ws′ m″ → length ws ≡ length ws′
+      → (ws ≡ ws′) × (m′ ≡ m″)
+  history-only stays stays e = (refl, refl)
+  history-only stays (passes s p) e = absurd (omega arith)
+  history-only (passes s p) stays e = absurd (omega arith)
+  history-only {m} {m″ = m″} (passes {m′ = a} s p) (passes {m′ = b} {exits = ws′} s′ p′) e =
+      let g : goes a ≡ goes b = sym s ∙ s′ in
+      let z : a ≡ b = cc in
+      let r = history-only p (subst (λ (x : Machine). Passes j x ws′ m″) (sym z) p′) (omega arith) in
+      (ap (λ (x : List ℕ). exitFrom j m ∷ x) (r .0), r .1)
+
+  pub history-ends : {m m′ : Machine} {ws : List ℕ} → Passes j m ws m′ → m′ .region ≡ getD (regionsOf m ws) (length ws) 0
+  history-ends stays = refl
+  history-ends {m} (passes {m′ = a} {exits = ws} s p) =
+      history-ends p ∙ ap (λ (r : ℕ). getD (r ∷ map targetOf ws) (length ws) 0) (step-kept m a s .region)
+
+  -- MaxSteps comes at the limit
+  pub at-limit : (k : ℕ) (m : Machine) → runOf j k m .stop ≡ MaxSteps → runOf j k m .at .steps ≡ m .steps + k
+  at-limit k m e = let h = run-history k m in go h (h .why)
+    where
+      go : (h : History j k m (runOf j k m))
+          → ((runOf j k m .stop ≡ MaxSteps) × (length (h .exits) ≡ k)) ⊎ ((stepOf j (runOf j k m .at) ≡ halts (runOf j k m .stop)) × (length (h .exits) < k))
+          → runOf j k m .at .steps ≡ m .steps + k
+      go h (inl p) = omega (arith, h .counted, p .1)
+      go h (inr p) = absurd (never-max (runOf j k m .at) (p .0 ∙ ap halts e))
+
+-- the same run under another limit
+abbrev pub jobUnder : ℕ → Job → Job
+jobUnder k j = record { rows = j .rows; exits = j .exits; given = underLimit k (j .given); room = j .room }
+
+module _ (l : ℕ) (j : Job) where
+  step-limit : (m : Machine) → stepOf (jobUnder l j) m ≡ stepOf j m
+  step-limit m = rw exec-limit refl
+
+  pub run-limit : (k : ℕ) (m : Machine) → runOf (jobUnder l j) k m ≡ runOf j k m
+  unfolding runOf after
+  run-limit zero m = refl
+  run-limit (suc k) m = ap (after (runOf (jobUnder l j) k) m) (step-limit m) ∙ go (stepOf j m) (run-limit k)
+    where
+      go : (x : Went) → ((m′ : Machine) → runOf (jobUnder l j) k m′ ≡ runOf j k m′) → after (runOf (jobUnder l j) k) m x ≡ after (runOf j k) m x
+      go (goes m′) f = f m′
+      go (halts s) f = refl

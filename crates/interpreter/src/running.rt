@@ -1,0 +1,110 @@
+// Steps until a stop, from any place and from the start.
+ghost use Rattle.machine.specs.Machine.{given};
+ghost use Rattle.machine.specs.Held.{slices};
+ghost use Rattle.interpreter.specs.Table.{Good};
+ghost use Rattle.interpreter.specs.Placed.{Placed, Resumed, Started, Resumable};
+ghost use Rattle.interpreter.specs.Outcome.{Outcome};
+use crate::Ended;
+use crate::Ran;
+use crate::State;
+use crate::stepping::Moved;
+use crate::stepping::step;
+use crate::validity::WRONG_TABLE;
+use crate::validity::valid;
+use base::fill::fill_i64;
+use base::fill::fill_u8;
+use flow::PointerState;
+use machine::Core;
+use machine::Reading;
+use machine::Stop;
+use machine::Terms;
+
+// Steps from a place until a stop.
+pub fn resume(
+    n: usize,
+    rows: &[u32],
+    exits: &[u32],
+    terms: Terms,
+    input: &[u8],
+    stack: &mut [i64],
+    kinds: &mut [u8],
+    values: &mut [i64],
+    from: State,
+) -> Ended
+    requires { ⌜ Good n (now rows) (now exits) ⌝ }
+    requires { ⌜ Placed n (slices (now stack) (now kinds) (now values)) from ⌝ }
+    ensures { λ r. ⌜ Resumed n (now (rows .entry)) (now (exits .entry)) (given terms (now (input .entry))) (slices (now (stack .entry)) (now (kinds .entry)) (now (values .entry))) from (slices (now (stack .exit)) (now (kinds .exit)) (now (values .exit))) r ⌝ }
+{
+    let mut at = from;
+    while at.steps < terms.limit {
+        match step(n, rows, exits, terms, input, stack, kinds, values, at) {
+            Moved::To(next) => {
+                at = next;
+            }
+            Moved::Halted(stop) => {
+                return Ended { stop, at };
+            }
+        }
+    }
+    Ended {
+        stop: Stop::MaxSteps,
+        at,
+    }
+}
+
+// From the start: region 0, dp right, cc left, an empty stack, 0 steps.
+fn run_valid(
+    n: usize,
+    rows: &[u32],
+    exits: &[u32],
+    terms: Terms,
+    input: &[u8],
+    stack: &mut [i64],
+    kinds: &mut [u8],
+    values: &mut [i64],
+) -> Ended
+    requires { ⌜ Good n (now rows) (now exits) ⌝ }
+    ensures { λ r. ⌜ Started n (now (rows .entry)) (now (exits .entry)) (given terms (now (input .entry))) (slices (now (stack .entry)) (now (kinds .entry)) (now (values .entry))) (slices (now (stack .exit)) (now (kinds .exit)) (now (values .exit))) r ⌝ }
+{
+    let cells = stack.len();
+    fill_i64(stack, 0, cells, 0);
+    let kind_cells = kinds.len();
+    fill_u8(kinds, 0, kind_cells, 0);
+    let value_cells = values.len();
+    fill_i64(values, 0, value_cells, 0);
+    let from = State {
+        region: 0,
+        steps: 0,
+        core: Core {
+            pointers: PointerState { dp: 0, cc: 0 },
+            depth: 0,
+            outputs: 0,
+            reading: Reading {
+                used: 0,
+                awaiting: false,
+            },
+        },
+    };
+    resume(n, rows, exits, terms, input, stack, kinds, values, from)
+}
+
+// The run of any table: refusal 10, or where it stopped.
+pub fn run(
+    n: usize,
+    rows: &[u32],
+    exits: &[u32],
+    terms: Terms,
+    input: &[u8],
+    stack: &mut [i64],
+    kinds: &mut [u8],
+    values: &mut [i64],
+) -> Ran
+    ensures { λ r. ⌜ Outcome n (now (rows .entry)) (now (exits .entry)) (given terms (now (input .entry))) (slices (now (stack .entry)) (now (kinds .entry)) (now (values .entry))) r (slices (now (stack .exit)) (now (kinds .exit)) (now (values .exit))) ⌝ }
+    ensures { λ r. ⌜ Resumable n (now (rows .entry)) (now (exits .entry)) (given terms (now (input .entry))) (slices (now (stack .entry)) (now (kinds .entry)) (now (values .entry))) r (slices (now (stack .exit)) (now (kinds .exit)) (now (values .exit))) ⌝ }
+{
+    let ok = valid(n, rows, exits);
+    if !ok {
+        return Ran::Refused(WRONG_TABLE);
+    }
+    Ran::Finished(run_valid(n, rows, exits, terms, input, stack, kinds, values))
+}
