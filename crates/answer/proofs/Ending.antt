@@ -13,11 +13,11 @@ use Rattle.base.proofs.Tests.{by-size}
 use Rattle.picture.specs.Picture.{Picture, colsOf, codels, codelColour}
 use Rattle.picture.proofs.Codels.{inside-of, row-in, col-in}
 use Rattle.region.specs.Grid.{gridOf}
+use Rattle.region.specs.Rows.{Row}
 use Rattle.region.proofs.MapLaws.{map-few}
-use Rattle.table.specs.Layout.{rowCell, rowsRoom, colourField, rowField, columnField, fieldAt}
+use Rattle.table.specs.Layout.{rowCell, rowsRoom, colourField, rowField, columnField, fieldAt, rowAt}
 use Rattle.table.proofs.Cells as cells
 use Rattle.cfg.specs.Build.{legalFirst, Enough}
-use Rattle.cfg.specs.Table.{Row}
 use Rattle.cfg.proofs.Refusing as building
 use Rattle.machine.specs.Held.{Slices, roomOf}
 use Rattle.machine.specs.Place.{End}
@@ -83,7 +83,7 @@ module _ (c : Content) {l l′ : Lends} {e : End} (s : Sized l) (s′ : Sized l�
   r = e .at .region
 
   -- the region's row
-  row : Row p m (take (rowsRoom (codels p)) (l′ .rows)) r
+  row : Row (gridOf p) (p .codel) (codels p) m r (rowAt (take (rowsRoom (codels p)) (l′ .rows)) r)
   row = R .table .builds .row r (R .inside)
 
   region-in : r < codels p

@@ -15,7 +15,8 @@ use lib.Seq.{getD-set-same, getD-set-other}
 use Rattle.cfg.specs.Nodes.{Adds, beside, astray, over, landing, Found}
 use Rattle.cfg.specs.Search.{mark, Room, Visit, pushed, kept, Queued, InGrid, Grounds, Occurs, Waiting, Queue, Onward}
 use Rattle.cfg.specs.Search as search
-use Rattle.table.specs.Layout.{rowCell, markField}
+use Rattle.table.specs.Layout.{rowCell, rowsRoom, markField}
+use Rattle.table.proofs.Cells.{row-apart}
 use Rattle.region.proofs.Cells.{stored}
 use Rattle.exit.specs.declared.attempt.Way.{Way}
 use Rattle.exit.specs.declared.attempt.Way.the-variants.{Closed, Step, Astray, Glide}
@@ -41,7 +42,7 @@ onward-none {tail = tail} q = record {
   on = le-refl tail;
   marks = λ r e. e;
   old = λ r h. refl;
-  cells = λ r c h. refl;
+  cells = λ r f h d. refl;
   rows-length = refl;
   work-length = refl;
 }
@@ -53,12 +54,12 @@ onward-more a b = record {
   on = omega (arith, a .on, b .on);
   marks = λ r e. b .marks r (a .marks r e);
   old = λ q h. b .old q (omega (arith, a .on)) ∙ a .old q h;
-  cells = λ r c h. b .cells r c h ∙ a .cells r c h;
+  cells = λ r f h d. b .cells r f h d ∙ a .cells r f h d;
   rows-length = b .rows-length ∙ a .rows-length;
   work-length = b .work-length ∙ a .work-length;
 }
 
-pub queue-none : (p : Picture) (map rows work : List ℕ) → length work ≤ 65536 → length work * 5 ≤ length rows → ((r : ℕ) → mark rows r ≡ 0) → Queue p map rows work 0
+pub queue-none : (p : Picture) (map rows work : List ℕ) → length work ≤ 65536 → rowsRoom (length work) ≤ length rows → ((r : ℕ) → mark rows r ≡ 0) → Queue p map rows work 0
 queue-none p map rows work few long none = record {
   room = record { few = few; long = long; free = omega (arith, bare-most (length work) rows) };
   waits = λ q h. absurd (omega arith);
@@ -136,7 +137,7 @@ module _ {p : Picture} {map : List ℕ} {q : ℕ} {rows work : List ℕ} {tail :
       on = omega arith;
       marks = marks;
       old = old;
-      cells = λ r c h. getD-set-other rows (rowCell q markField) (rowCell r c) 1 0 (omega arith);
+      cells = λ r f h d. getD-set-other rows (rowCell q markField) (rowCell r f) 1 0 (λ z. d (row-apart r f q markField h (omega arith) z .1));
       rows-length = length-set rows (rowCell q markField) 1;
       work-length = length-set work tail q;
     }

@@ -234,7 +234,7 @@ kept-all Room d e = refused 3 (0 ∷ 0 ∷ []) (sym e) refl
 
 -- the parts that are lent, and the slices that come back
 pub sized-parts : {p : Picture} (map rows exits work : List ℕ) (k : ℕ) → k ≡ codels p → Enough p (length map) (length rows) (length exits) (length work)
-    → Sized p (take k map) (take (k * 5) rows) (take (8 * k) exits) (take k work)
+    → Sized p (take k map) (take (rowsRoom k) rows) (take (exitsRoom k) exits) (take k work)
 sized-parts {p} map rows exits work k e E = rw e (record {
   sound = E .sound;
   map-long = length-take-le (codels p) map (E .map-in);
@@ -244,7 +244,7 @@ sized-parts {p} map rows exits work k e E = rw e (record {
 })
 
 pub written : {p : Picture} {map rows exits work m t e w : List ℕ} {n : ℕ} (k : ℕ) → k ≡ codels p → Builds p m t e w n
-    → Written p map rows exits work (m ++ drop k map) (t ++ drop (k * 5) rows) (e ++ drop (8 * k) exits) (w ++ drop k work) n
+    → Written p map rows exits work (m ++ drop k map) (t ++ drop (rowsRoom k) rows) (e ++ drop (exitsRoom k) exits) (w ++ drop k work) n
 written {p} {map} {rows} {exits} {work} {m} {t} {e} {w} k q B =
     let wl : length w ≡ codels p = ap length (B .work-zero) ∙ length-replicate (codels p) 0 in
     rw q (record {

@@ -7,14 +7,14 @@
 use mathlib.Core.Path.{_≡_, refl, sym, subst, _∙_}
 use mathlib.Core.Logic.{_≢_, by-cases}
 use mathlib.Core.List.{List}
-use Prim.Native.Nat.{ℕ, _+_, _*_, _/_, _<_, _≤_}
+use Prim.Native.Nat.{ℕ, _+_, _<_, _≤_}
 use native.Mathlib.Decide.{decLt, ℕ-discrete}
 use native.Mathlib.Omega.{arith}
 use lib.ListN.{length, getD}
 use Rattle.cfg.specs.Nodes.{Adds, Found, entry, next}
 use Rattle.cfg.specs.Table.{Marks, is, none}
 use Rattle.cfg.specs.Search.{mark, Visit, Queue, Onward, Settled, Several, Leaving, Taken, Ready, Searched}
-use Rattle.table.specs.Layout.{rowCell, exitCell}
+use Rattle.table.specs.Layout.{markField, fieldAt, exitAt}
 use Rattle.picture.specs.Picture.{Picture, codels}
 use Rattle.picture.proofs.Codels.{first-in, cols-pos}
 use Rattle.flow.specs.Pointer.{stateNumber}
@@ -30,9 +30,9 @@ pub record Searching (p : Picture) (map rows₀ exits₀ work₀ : List ℕ) (he
   pub queue : Queue p map rows work tail
   pub inside : head ≤ tail
   pub start : mark rows 0 ≡ 1
-  pub settled : (q : ℕ) → q < head → (s : ℕ) → s < 8 → Settled p map rows (getD work q 0) s (getD exits (exitCell (getD work q 0) s) 0)
-  pub same : (k : ℕ) → ((q : ℕ) → q < head → getD work q 0 ≢ k / 8) → getD exits k 0 ≡ getD exits₀ k 0
-  pub cells : (r c : ℕ) → c < 4 → getD rows (rowCell r c) 0 ≡ getD rows₀ (rowCell r c) 0
+  pub settled : (q : ℕ) → q < head → (s : ℕ) → s < 8 → Settled p map rows (getD work q 0) s (exitAt exits (getD work q 0) s)
+  pub same : (r s : ℕ) → s < 8 → ((q : ℕ) → q < head → getD work q 0 ≢ r) → exitAt exits r s ≡ exitAt exits₀ r s
+  pub cells : (r f : ℕ) → f < 5 → f ≢ markField → fieldAt rows r f ≡ fieldAt rows₀ r f
   pub rows-length : length rows ≡ length rows₀
   pub exits-length : length exits ≡ length exits₀
   pub work-length : length work ≡ length work₀
@@ -57,8 +57,8 @@ search-start R v =
       inside = omega arith;
       start = x .1;
       settled = λ q h. absurd (omega arith);
-      same = λ k h. refl;
-      cells = λ r c h. refl;
+      same = λ r s h d. refl;
+      cells = λ r f h d. refl;
       rows-length = refl;
       exits-length = refl;
       work-length = refl;
@@ -76,8 +76,8 @@ module _ {p : Picture} {map rowsᵉ exitsᵉ workᵉ rows₀ work₀ : List ℕ}
 
   module _ (more : head < tail) where
     -- the cells of the region at the head are as they were
-    held : (s : ℕ) → s < 8 → getD exits (8 * getD work head 0 + s) 0 ≡ getD exitsᵉ (8 * getD work head 0 + s) 0
-    held s h = S .same (8 * getD work head 0 + s) (λ q i e. S .queue .distinct q head i more (omega arith))
+    held : (s : ℕ) → s < 8 → exitAt exits (getD work head 0) s ≡ exitAt exitsᵉ (getD work head 0) s
+    held s h = S .same (getD work head 0) s h (λ q i. S .queue .distinct q head i more)
 
     leaving : Leaving p map exits (getD work head 0)
     leaving s h =
@@ -95,19 +95,19 @@ module _ {p : Picture} {map rowsᵉ exitsᵉ workᵉ rows₀ work₀ : List ℕ}
     }
 
     module _ {rows′ exits′ work′ : List ℕ} {tail′ : ℕ} (T : Several p map (getD work head 0) 8 rows exits work tail rows′ exits′ work′ tail′) where
-      settled : (q : ℕ) → q < head + 1 → (s : ℕ) → s < 8 → Settled p map rows′ (getD work′ q 0) s (getD exits′ (8 * getD work′ q 0 + s) 0)
+      settled : (q : ℕ) → q < head + 1 → (s : ℕ) → s < 8 → Settled p map rows′ (getD work′ q 0) s (exitAt exits′ (getD work′ q 0) s)
       settled q h s i =
           by-cases (decLt q head)
           (λ b.
           let d = S .queue .distinct q head b more in
-          let e : getD exits′ (exitCell (getD work q 0) s) 0 ≡ getD exits (exitCell (getD work q 0) s) 0 = T .same (exitCell (getD work q 0) s) (λ t j. omega arith) in
+          let e : exitAt exits′ (getD work q 0) s ≡ exitAt exits (getD work q 0) s = T .same (getD work q 0) s i (λ z. absurd (d z)) in
           rw (T .onward .old q (omega arith), e) (settled-on (T .onward .marks) (S .settled q b s i)))
           (λ b. let a : q ≡ head = omega arith in rw (a, T .onward .old head more) (T .settled s i))
 
-      same : (k : ℕ) → ((q : ℕ) → q < head + 1 → getD work′ q 0 ≢ k / 8) → getD exits′ k 0 ≡ getD exitsᵉ k 0
-      same k h =
-          T .same k (λ s i e. h head (omega arith) (T .onward .old head more ∙ omega arith))
-          ∙ S .same k (λ q i e. h q (omega arith) (T .onward .old q (omega arith) ∙ e))
+      same : (r s : ℕ) → s < 8 → ((q : ℕ) → q < head + 1 → getD work′ q 0 ≢ r) → exitAt exits′ r s ≡ exitAt exitsᵉ r s
+      same r s i h =
+          T .same r s i (λ e. absurd (h head (omega arith) (T .onward .old head more ∙ sym e)))
+          ∙ S .same r s i (λ q l e. h q (omega arith) (T .onward .old q (omega arith) ∙ e))
 
       pub search-turn : Searching p map rows₀ exitsᵉ work₀ (head + 1) rows′ exits′ work′ tail′
       search-turn = record {
@@ -116,7 +116,7 @@ module _ {p : Picture} {map rowsᵉ exitsᵉ workᵉ rows₀ work₀ : List ℕ}
         start = T .onward .marks 0 (S .start);
         settled = settled;
         same = same;
-        cells = λ r c h. T .onward .cells r c h ∙ S .cells r c h;
+        cells = λ r f h d. T .onward .cells r f h d ∙ S .cells r f h d;
         rows-length = T .onward .rows-length ∙ S .rows-length;
         exits-length = T .exits-length ∙ S .exits-length;
         work-length = T .onward .work-length ∙ S .work-length;
@@ -125,7 +125,7 @@ module _ {p : Picture} {map rowsᵉ exitsᵉ workᵉ rows₀ work₀ : List ℕ}
   -- the queue is empty
   module _ (empty : tail ≤ head) where
     -- a marked region's exits are settled
-    done : (r : ℕ) → mark rows r ≡ 1 → (s : ℕ) → s < 8 → Settled p map rows r s (getD exits (exitCell r s) 0)
+    done : (r : ℕ) → mark rows r ≡ 1 → (s : ℕ) → s < 8 → Settled p map rows r s (exitAt exits r s)
     done r m s h =
         let (q, i, e) = S .queue .seen r m in
         rw e at (S .settled q (omega arith) s h)
@@ -156,6 +156,6 @@ module _ {p : Picture} {map rowsᵉ exitsᵉ workᵉ rows₀ work₀ : List ℕ}
     search-end = record {
       marks = marks;
       settled = λ r f s h. done r (complete f) s h .is;
-      same = λ k d. S .same k (λ q i e. d (subst (Found p map) e (S .queue .waits q (omega (arith, S .inside)) .found)));
-      cells = λ r c h. S .cells r c h ∙ first-visited R v .0 .cells r c h;
+      same = λ r s h d. S .same r s h (λ q i e. d (subst (Found p map) e (S .queue .waits q (omega (arith, S .inside)) .found)));
+      cells = λ r f h d. S .cells r f h d ∙ first-visited R v .0 .cells r f h d;
     }

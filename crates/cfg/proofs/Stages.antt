@@ -6,7 +6,7 @@ use mathlib.Core.Path.{_≡_, refl, sym, subst, _∙_}
 use mathlib.Core.Logic.{_≢_, by-cases}
 use mathlib.Core.Bool.{Bool, true, false, cond, not, true≢false}
 use mathlib.Core.List.{List, [], _∷_, append-nil}
-use Prim.Native.Nat.{ℕ, zero, suc, _+_, _*_, _/_, _%_, _<_, _≤_}
+use Prim.Native.Nat.{ℕ, zero, suc, _<_, _≤_}
 use native.Mathlib.Nat.{le-of-suc-le-suc, not-suc-le-zero}
 use native.Mathlib.Decide.{decLt, ℕ-discrete}
 use native.Mathlib.Omega.{arith}
@@ -16,17 +16,18 @@ use lib.ListN.{length, getD, replicate}
 use lib.Seq.{drop-length}
 use Rattle.base.specs.Lent.{filled}
 use Rattle.base.proofs.Over.{filled-zero}
-use Rattle.flow.specs.Pointer.{ofNumber}
+use Rattle.flow.specs.Pointer.{stateNumber, ofNumber}
 use Rattle.cfg.specs.Nodes.{Adds, beside, astray, over, landing, Found, entry, next, Node}
-use Rattle.cfg.specs.Table.{Marks, is, none, Row, Exit, no-node, Builds}
+use Rattle.cfg.specs.Table.{Marks, is, none, Exit, no-node, Builds}
 use Rattle.cfg.specs.Search.{mark, InGrid, Grounds, Occurs, Begun, Ready, Searched, isNode, Kept, stays, goes, Cleared}
-use Rattle.table.specs.Layout.{rowCell, markField, colourField, exitCell, rowsRoom, exitsRoom}
+use Rattle.table.specs.Layout.{rowCell, colourField, sizeField, rowField, columnField, markField, exitCell, rowsRoom, exitsRoom, fieldAt, exitAt, rowAt, blank}
+use Rattle.table.proofs.Cells.{row-past, exit-apart, same-row, blank-fields}
 use Rattle.picture.specs.Picture.{Picture, rowsOf, colsOf, codels, codelColour}
 use Rattle.exit.specs.declared.attempt.Way.{Way}
 use Rattle.colour.specs.Palette.{white}
 use Rattle.exit.specs.Keeping.{Mapped, AllKept, cellOf}
 use Rattle.region.proofs.MapLaws.{map-low}
-use Rattle.region.specs.Rows.{Blank}
+use Rattle.region.specs.Rows.{Row}
 use Rattle.picture.proofs.Codels.{cols-pos, first-in, inside-of}
 use Rattle.cfg.proofs.NodeLaws.{joined-colour, number-exit}
 use Rattle.region.specs.Grid.{gridOf}
@@ -43,15 +44,6 @@ pub zero-at : (n k : ℕ) → getD {A = ℕ} (replicate n 0) k 0 ≡ 0
 zero-at zero k = refl
 zero-at (suc n) zero = refl
 zero-at (suc n) (suc k) = zero-at n k
-
--- a row of zeros, cell by cell
-blank-at : (t : List ℕ) (r : ℕ) → Blank t r → (c : ℕ) → c < 5 → getD t (rowCell r c) 0 ≡ 0
-blank-at t r b zero h = b .colour
-blank-at t r b (suc zero) h = b .size
-blank-at t r b (suc (suc zero)) h = b .row
-blank-at t r b (suc (suc (suc zero))) h = b .col
-blank-at t r b (suc (suc (suc (suc zero)))) h = b .node
-blank-at t r b (suc (suc (suc (suc (suc c))))) h = absurd (omega arith)
 
 module _ {p : Picture} {map : List ℕ} {n : ℕ} {rows : List ℕ} (B : Begun p map n rows) where
   pub grounds : Grounds p map
@@ -72,17 +64,14 @@ module _ {p : Picture} {map : List ℕ} {n : ℕ} {rows : List ℕ} (B : Begun p
   }
 
   -- the rows past the regions
-  rest-at : (k : ℕ) → n * 5 ≤ k → getD rows k 0 ≡ 0
-  rest-at k h =
-      by-cases (decLt (k / 5) (codels p))
-      (λ i.
-      let e : k / 5 * 5 + k % 5 ≡ k = omega arith in
-      let c : k % 5 < 5 = omega arith in
-      rw e at (blank-at rows (k / 5) (B .table .rest (k / 5) (omega arith) i) (k % 5) c))
-      (λ i. beyond rows k (omega (arith, B .rows-long)))
+  rest-at : (r f : ℕ) → n ≤ r → f < 5 → fieldAt rows r f ≡ 0
+  rest-at r f h k =
+      by-cases (decLt r (codels p))
+      (λ i. blank-fields rows r (B .table .rest r h i) f k)
+      (λ i. let past = row-past (codels p) r f k (omega arith) in beyond rows (rowCell r f) (omega (arith, B .rows-long)))
 
   unmarked : (r : ℕ) → mark rows r ≡ 0
-  unmarked r = by-cases (decLt r n) (λ h. B .table .rows r h .node) (λ h. rest-at (rowCell r markField) (omega arith))
+  unmarked r = by-cases (decLt r n) (λ h. B .table .unmarked r h) (λ h. rest-at r markField (omega arith) (omega arith))
 
   pub ready : {exits work : List ℕ} → AllKept map (replicate (exitsRoom (codels p)) 0) exits (rowsOf p) (colsOf p) 8 → length exits ≡ exitsRoom (codels p) → length work ≡ codels p → Ready p map rows exits work
   ready {exits} {work} K el wl = record {
@@ -120,16 +109,16 @@ module _ {p : Picture} {map : List ℕ} {n : ℕ} {rows : List ℕ} (B : Begun p
 
   module _ {exits rows′ exits′ rows″ exits″ : List ℕ} (K : AllKept map (replicate (exitsRoom (codels p)) 0) exits (rowsOf p) (colsOf p) 8)
       (S : Searched p map rows exits rows′ exits′) (C : Cleared n rows′ exits′ rows″ exits″) where
-    -- a row's first four cells stay
-    cell : (r c : ℕ) → c < 4 → getD rows″ (rowCell r c) 0 ≡ getD rows (rowCell r c) 0
-    cell r c h = C .rows-same (rowCell r c) (λ q i. omega arith) ∙ S .cells r c h
+    -- the fields of a row stay, but for its mark
+    field : (r f : ℕ) → f < 5 → f ≢ markField → fieldAt rows″ r f ≡ fieldAt rows r f
+    field r f h d = C .rows-same r f h (λ _. d) ∙ S .cells r f h d
 
     -- the colour cell is the colour of each codel of the region
-    colour-cell : (r : ℕ) → r < n → (i : ℕ) → i < codels p → getD map i 0 ≡ r → getD rows′ (rowCell r colourField) 0 ≡ codelColour p i
+    colour-cell : (r : ℕ) → r < n → (i : ℕ) → i < codels p → getD map i 0 ≡ r → fieldAt rows′ r colourField ≡ codelColour p i
     colour-cell r h i l e =
         let t = B .table .rows r h in
-        let c : getD rows′ (rowCell r colourField) 0 ≡ getD rows (rowCell r colourField) 0 = S .cells r 0 (omega arith) in
-        c ∙ t .colour ∙ joined-colour (B .regions .apart (t .first) i (t .is .inside) l (t .is .has ∙ sym e))
+        let c : fieldAt rows′ r colourField ≡ fieldAt rows r colourField = S .cells r colourField (omega arith) (λ e. omega arith) in
+        c ∙ t .colour ∙ joined-colour (B .regions .apart (t .first) i (t .is-first .inside) l (t .is-first .has ∙ sym e))
 
     -- a region that is kept is a node, and one that is not kept is none
     marked-is : {r x : ℕ} → Marks (Found p map r) x → x ≢ 0 → Found p map r × (x ≡ 1)
@@ -140,14 +129,14 @@ module _ {p : Picture} {map : List ℕ} {n : ℕ} {rows : List ℕ} (B : Begun p
     unmarked-not (is f) e g = omega arith
     unmarked-not (none f) e g = f g
 
-    tests : (r : ℕ) → isNode rows′ r ≡ true → (getD rows′ (rowCell r colourField) 0 ≢ white) × (mark rows′ r ≢ 0)
-    tests r e = first (eqb (getD rows′ (rowCell r colourField) 0) 19) refl e
+    tests : (r : ℕ) → isNode rows′ r ≡ true → (fieldAt rows′ r colourField ≢ white) × (mark rows′ r ≢ 0)
+    tests r e = first (eqb (fieldAt rows′ r colourField) 19) refl e
       where
         second : (b : Bool) → eqb (mark rows′ r) 0 ≡ b → not b ≡ true → mark rows′ r ≢ 0
         second true h k = absurd (true≢false (sym k))
         second false h k = eqb-false _ _ h
 
-        first : (b : Bool) → eqb (getD rows′ (rowCell r colourField) 0) 19 ≡ b → cond b false (not (eqb (mark rows′ r) 0)) ≡ true → (getD rows′ (rowCell r colourField) 0 ≢ white) × (mark rows′ r ≢ 0)
+        first : (b : Bool) → eqb (fieldAt rows′ r colourField) 19 ≡ b → cond b false (not (eqb (mark rows′ r) 0)) ≡ true → (fieldAt rows′ r colourField ≢ white) × (mark rows′ r ≢ 0)
         first true h k = absurd (true≢false (sym k))
         first false h k = (eqb-false _ _ h, second (eqb (mark rows′ r) 0) refl k)
 
@@ -158,20 +147,20 @@ module _ {p : Picture} {map : List ℕ} {n : ℕ} {rows : List ℕ} (B : Begun p
         (record { found = f .0; coloured = λ w. t .0 (colour-cell r h (w .codel) (w .inside) (w .own) ∙ w .colour) }, f .1)
 
     never-node : (r : ℕ) → r < n → isNode rows′ r ≡ false → Node p map r → ⊥
-    never-node r h e N = first (eqb (getD rows′ (rowCell r colourField) 0) 19) refl e
+    never-node r h e N = first (eqb (fieldAt rows′ r colourField) 19) refl e
       where
         second : (b : Bool) → eqb (mark rows′ r) 0 ≡ b → not b ≡ false → ⊥
         second true m k = unmarked-not (S .marks r) (eqb-true _ _ m) (N .found)
         second false m k = true≢false k
 
-        first : (b : Bool) → eqb (getD rows′ (rowCell r colourField) 0) 19 ≡ b → cond b false (not (eqb (mark rows′ r) 0)) ≡ false → ⊥
+        first : (b : Bool) → eqb (fieldAt rows′ r colourField) 19 ≡ b → cond b false (not (eqb (mark rows′ r) 0)) ≡ false → ⊥
         first true m k =
             let t = B .table .rows r h in
             N .coloured (record {
               codel = t .first;
-              inside = t .is .inside;
-              own = t .is .has;
-              colour = sym (colour-cell r h (t .first) (t .is .inside) (t .is .has)) ∙ eqb-true _ _ m;
+              inside = t .is-first .inside;
+              own = t .is-first .has;
+              colour = sym (colour-cell r h (t .first) (t .is-first .inside) (t .is-first .has)) ∙ eqb-true _ _ m;
             })
         first false m k = second (eqb (mark rows′ r) 0) refl k
 
@@ -179,49 +168,52 @@ module _ {p : Picture} {map : List ℕ} {n : ℕ} {rows : List ℕ} (B : Begun p
     node-mark r h (stays e m x) = let d = is-node r h e in subst (Marks (Node p map r)) (sym (m ∙ d .1)) (is (d .0))
     node-mark r h (goes e m x) = subst (Marks (Node p map r)) (sym m) (none (never-node r h e))
 
-    exit-at : (r s : ℕ) → r < n → s < 8 → Kept r rows′ exits′ rows″ exits″ → Exit p map r (ofNumber s) (getD exits″ (exitCell r s) 0)
+    exit-at : (r s : ℕ) → r < n → s < 8 → Kept r rows′ exits′ rows″ exits″ → Exit p map r (ofNumber s) (exitAt exits″ r s)
     exit-at r s h i (stays e m x) =
         let d = is-node r h e in
         subst (Exit p map r (ofNumber s)) (sym (x s i)) (number-exit (cols-pos (B .sound)) (B .map-long) i (d .0) (S .settled r (d .0 .found) s i))
     exit-at r s h i (goes e m x) = subst (Exit p map r (ofNumber s)) (sym (x s i)) (no-node (never-node r h e))
 
-    row-at : (r : ℕ) → r < n → Row p map rows″ r
+    row-at : (r : ℕ) → r < n → Row (gridOf p) (p .codel) (codels p) map r (rowAt rows″ r)
     row-at r h =
         let t = B .table .rows r h in
         record {
           first = t .first;
-          is-first = t .is;
-          colour = cell r 0 (omega arith) ∙ t .colour;
-          size = cell r 1 (omega arith) ∙ t .size;
-          row = cell r 2 (omega arith) ∙ t .row;
-          column = cell r 3 (omega arith) ∙ t .col;
-          node = node-mark r h (C .each r h);
+          is-first = t .is-first;
+          colour = field r colourField (omega arith) (λ e. omega arith) ∙ t .colour;
+          size = field r sizeField (omega arith) (λ e. omega arith) ∙ t .size;
+          row = field r rowField (omega arith) (λ e. omega arith) ∙ t .row;
+          column = field r columnField (omega arith) (λ e. omega arith) ∙ t .column;
         }
 
     not-found : {r : ℕ} → n ≤ r → Found p map r → ⊥
     not-found h f = omega (arith, found-low f)
 
-    rows-rest : (k : ℕ) → n * 5 ≤ k → getD rows″ k 0 ≡ 0
-    rows-rest k h =
-        C .rows-same k (λ r i. omega arith)
-        ∙ by-cases (decLt (k % 5) 4)
-        (λ c.
-        let e : k / 5 * 5 + k % 5 ≡ k = omega arith in
-        (rw e at (S .cells (k / 5) (k % 5) c)) ∙ rest-at k h)
-        (λ c.
-        let e : k / 5 * 5 + 4 ≡ k = omega arith in
-        let z : mark rows′ (k / 5) ≡ 0 = zero-mark (k / 5) (omega arith) in
-        rw e at z)
-      where
-        zero-mark : (r : ℕ) → n ≤ r → mark rows′ r ≡ 0
-        zero-mark r h = by-cases (ℕ-discrete (mark rows′ r) 0) (λ e. e) (λ d. absurd (not-found h (marked-is (S .marks r) d .0)))
+    -- past the regions
+    module _ (r : ℕ) (h : n ≤ r) where
+      field-zero : (f : ℕ) → f < 5 → f ≢ markField → fieldAt rows″ r f ≡ 0
+      field-zero f k d = field r f k d ∙ rest-at r f h k
 
-    exits-rest : (k : ℕ) → 8 * n ≤ k → getD exits″ k 0 ≡ 0
-    exits-rest k h =
-        C .exits-same k h
-        ∙ S .same k (not-found (omega arith))
-        ∙ K .others k (λ s i j l e. omega (arith, B .regions .below j (omega (arith, B .map-long))))
-        ∙ zero-at (exitsRoom (codels p)) k
+      mark-zero : mark rows″ r ≡ 0
+      mark-zero =
+          C .rows-same r markField (omega arith) (λ l. absurd (omega arith))
+          ∙ by-cases (ℕ-discrete (mark rows′ r) 0) (λ e. e) (λ d. absurd (not-found h (marked-is (S .marks r) d .0)))
+
+      row-zero : rowAt rows″ r ≡ blank
+      row-zero =
+          same-row
+          (field-zero colourField (omega arith) (λ e. omega arith))
+          (field-zero sizeField (omega arith) (λ e. omega arith))
+          (field-zero rowField (omega arith) (λ e. omega arith))
+          (field-zero columnField (omega arith) (λ e. omega arith))
+          mark-zero
+
+      exit-zero : (s : ℕ) → s < 8 → exitAt exits″ r s ≡ 0
+      exit-zero s k =
+          C .exits-same r s k h
+          ∙ S .same r s k (not-found h)
+          ∙ K .others (exitCell r s) (λ t i j l e. let x = exit-apart (getD map j 0) (stateNumber (ofNumber t)) r s (omega arith) k e in omega (arith, B .regions .below j (omega (arith, B .map-long)), x .0))
+          ∙ zero-at (exitsRoom (codels p)) (exitCell r s)
 
     pub builds : {work : List ℕ} → length rows″ ≡ rowsRoom (codels p) → length exits″ ≡ exitsRoom (codels p) → work ≡ replicate (codels p) 0 → Builds p map rows″ exits″ work n
     builds rl el w = record {
@@ -231,8 +223,9 @@ module _ {p : Picture} {map : List ℕ} {n : ℕ} {rows : List ℕ} (B : Begun p
       regions = B .regions;
       row = row-at;
       exit = λ r s h i. exit-at r s h i (C .each r h);
-      rows-rest = rows-rest;
-      exits-rest = exits-rest;
+      node = λ r h. node-mark r h (C .each r h);
+      rows-rest = row-zero;
+      exits-rest = λ r s h k. exit-zero r h s k;
       work-zero = w;
     }
 

@@ -2,20 +2,20 @@
 use mathlib.Core.Path.{_≡_, refl, sym, ap, subst, _∙_}
 use mathlib.Core.Logic.{by-cases}
 use mathlib.Core.List.{List}
-use Prim.Native.Nat.{ℕ, zero, suc, _+_, _*_, _/_, _%_, _<_, _≤_}
+use Prim.Native.Nat.{ℕ, _<_}
 use native.Mathlib.Decide.{decLt}
 use native.Mathlib.Omega.{arith}
-use lib.ListN.{length, getD, drop, drop-of-length-le}
-use lib.Seq.{ext-getD}
+use lib.ListN.{length, drop, drop-of-length-le}
 use Rattle.flow.specs.Pointer.{Valid, stateNumber}
 use Rattle.flow.proofs.Order.{valid-number}
 use Rattle.flow.specs.declared.PointerState.{PointerState}
-use Rattle.cfg.specs.Table.{Marks, is, none, Row, Exit, no-node, shut, leads, Builds}
-use Rattle.table.specs.Layout.{rowCell}
-use Rattle.picture.specs.Picture.{Picture, colsOf, codels, codelColour}
+use Rattle.cfg.specs.Table.{Marks, is, none, Exit, no-node, shut, leads, Builds}
+use Rattle.table.specs.Layout.{exitAt, rowAt}
+use Rattle.table.proofs.Cells.{same-rows, same-exits}
+use Rattle.picture.specs.Picture.{Picture, colsOf, codels}
 use Rattle.region.specs.Grid.{gridOf}
 use Rattle.region.proofs.MapLaws.{settled}
-use Rattle.region.proofs.RowLaws.{first-one}
+use Rattle.region.proofs.RowLaws.{row-only}
 use Rattle.exit.proofs.Opening.{opens-only}
 
 one-mark : {A : Type 0} {x y : ℕ} → Marks A x → Marks A y → x ≡ y
@@ -39,39 +39,19 @@ module _ {p : Picture} {map : List ℕ} (h : 0 < colsOf p) (l : length map ≡ c
       let e : stateNumber u ≡ stateNumber u′ = ap stateNumber (o .1) in
       omega (arith, o .0, o .2)
 
-  one-row : {rows rows′ : List ℕ} (r : ℕ) → Row p map rows r → Row p map rows′ r → (c : ℕ) → c < 5 → getD rows (rowCell r c) 0 ≡ getD rows′ (rowCell r c) 0
-  one-row {rows} {rows′} r a b = cells
-    where
-      e : a .first ≡ b .first
-      e = first-one map (codels p) r (a .first) (b .first) (a .is-first) (b .is-first)
-
-      cells : (c : ℕ) → c < 5 → getD rows (rowCell r c) 0 ≡ getD rows′ (rowCell r c) 0
-      cells zero l = a .colour ∙ ap (codelColour p) e ∙ sym (b .colour)
-      cells (suc zero) l = a .size ∙ sym (b .size)
-      cells (suc (suc zero)) l = a .row ∙ ap (λ (z : ℕ). z / colsOf p * p .codel) e ∙ sym (b .row)
-      cells (suc (suc (suc zero))) l = a .column ∙ ap (λ (z : ℕ). z % colsOf p * p .codel) e ∙ sym (b .column)
-      cells (suc (suc (suc (suc zero)))) l = one-mark (a .node) (b .node)
-      cells (suc (suc (suc (suc (suc c))))) l = absurd (omega arith)
-
 module _ {p : Picture} (h : 0 < colsOf p) {map rows exits work rows′ exits′ work′ : List ℕ} {n : ℕ}
     (a : Builds p map rows exits work n) (b : Builds p map rows′ exits′ work′ n) where
-  same-rows : rows ≡ rows′
-  same-rows = ext-getD 0 rows rows′ (a .rows-long ∙ sym (b .rows-long)) (λ k l.
-      by-cases (decLt (k / 5) n)
-      (λ i.
-      let e : k / 5 * 5 + k % 5 ≡ k = omega arith in
-      let c : k % 5 < 5 = omega arith in
-      subst (λ (x : ℕ). getD rows x 0 ≡ getD rows′ x 0) e (one-row h (a .map-long) (k / 5) (a .row (k / 5) i) (b .row (k / 5) i) (k % 5) c))
-      (λ i. let o : n * 5 ≤ k = omega arith in a .rows-rest k o ∙ sym (b .rows-rest k o)))
+  one-row : (r : ℕ) → rowAt rows r ≡ rowAt rows′ r
+  one-row r =
+      by-cases (decLt r n)
+      (λ i. row-only (a .row r i) (b .row r i) (one-mark (a .node r i) (b .node r i)))
+      (λ i. a .rows-rest r (omega arith) ∙ sym (b .rows-rest r (omega arith)))
 
-  same-exits : exits ≡ exits′
-  same-exits = ext-getD 0 exits exits′ (a .exits-long ∙ sym (b .exits-long)) (λ k l.
-      by-cases (decLt (k / 8) n)
-      (λ i.
-      let e : 8 * (k / 8) + k % 8 ≡ k = omega arith in
-      let c : k % 8 < 8 = omega arith in
-      subst (λ (x : ℕ). getD exits x 0 ≡ getD exits′ x 0) e (one-exit h (a .map-long) (valid-number (k % 8) c) (a .exit (k / 8) (k % 8) i c) (b .exit (k / 8) (k % 8) i c)))
-      (λ i. let o : 8 * n ≤ k = omega arith in a .exits-rest k o ∙ sym (b .exits-rest k o)))
+  each-exit : (r s : ℕ) → s < 8 → exitAt exits r s ≡ exitAt exits′ r s
+  each-exit r s k =
+      by-cases (decLt r n)
+      (λ i. one-exit h (a .map-long) (valid-number s k) (a .exit r s i k) (b .exit r s i k))
+      (λ i. a .exits-rest r s (omega arith) k ∙ sym (b .exits-rest r s (omega arith) k))
 
 -- a picture has one table
 pub table-only : {p : Picture} → 0 < colsOf p → {map rows exits work map′ rows′ exits′ work′ : List ℕ} {n n′ : ℕ}
@@ -83,4 +63,4 @@ table-only {p} h {map} {rows} {exits} {work} {map′} {rows′} {exits′} {work
     let u = settled (gridOf p) map map′ n n′ (a .regions) (b .regions) (a .map-long ∙ sym (b .map-long)) rest in
     let c : Builds p map rows′ exits′ work′ n =
     subst (λ (x : ℕ). Builds p map rows′ exits′ work′ x) (sym (u .1)) (subst (λ (x : List ℕ). Builds p x rows′ exits′ work′ n′) (sym (u .0)) b) in
-    (u .0, same-rows h a c, same-exits h a c, a .work-zero ∙ sym (b .work-zero), u .1)
+    (u .0, same-rows rows rows′ (a .rows-long ∙ sym (c .rows-long)) (one-row h a c), same-exits exits exits′ (a .exits-long ∙ sym (c .exits-long)) (each-exit h a c), a .work-zero ∙ sym (b .work-zero), u .1)

@@ -16,7 +16,8 @@ use Rattle.flow.proofs.Order.{valid-number}
 use Rattle.flow.specs.declared.PointerState.{PointerState}
 use Rattle.cfg.specs.Nodes.{Found, next}
 use Rattle.cfg.specs.Search.{wayNumber, mark, Queued, InGrid, Grounds, Queue, Settled, Tries, Several, Taken}
-use Rattle.table.specs.Layout.{exitCell, exitsRoom}
+use Rattle.table.specs.Layout.{exitCell, exitsRoom, exitAt}
+use Rattle.table.proofs.Cells.{exit-apart}
 use Rattle.exit.specs.declared.attempt.Way.{Way}
 use Rattle.exit.specs.declared.attempt.Way.the-variants.{Step, Glide}
 use Rattle.colour.specs.Decode.{decodeOf}
@@ -55,30 +56,30 @@ tries {p} {map} {r} {s} {i} {v} {w} G f Q long h l a inside e d =
     }
 
 pub several-none : {p : Picture} {map : List ℕ} (r : ℕ) {rows : List ℕ} (exits : List ℕ) {work : List ℕ} {tail : ℕ} → Queue p map rows work tail → Several p map r 0 rows exits work tail rows exits work tail
-several-none r exits Q = record { onward = onward-none Q; settled = λ s h. absurd (omega arith); same = λ x h. refl; exits-length = refl }
+several-none r exits Q = record { onward = onward-none Q; settled = λ s h. absurd (omega arith); same = λ q s h d. refl; exits-length = refl }
 
 pub settled-on : {p : Picture} {map rows rows′ : List ℕ} {r s x : ℕ} → ((q : ℕ) → mark rows q ≡ 1 → mark rows′ q ≡ 1) → Settled p map rows r s x → Settled p map rows′ r s x
 settled-on m t = record { is = t .is; marked = λ q d. m q (t .marked q d) }
 
 module _ {p : Picture} {map : List ℕ} {r k : ℕ} {rows exits work : List ℕ} {tail : ℕ} {rows′ exits′ work′ : List ℕ} {tail′ : ℕ} {rows″ exits″ work″ : List ℕ} {tail″ : ℕ}
-    (a : Several p map r k rows exits work tail rows′ exits′ work′ tail′) (t : Tries p map r k rows′ exits′ work′ tail′ rows″ exits″ work″ tail″) (inside : exitCell r k < length exits′) where
-  apart : (x : ℕ) → x ≢ exitCell r k → getD exits″ x 0 ≡ getD exits′ x 0
-  apart x d = rw (t .stored) (getD-set-other exits′ (exitCell r k) x (t .value) 0 d)
+    (a : Several p map r k rows exits work tail rows′ exits′ work′ tail′) (t : Tries p map r k rows′ exits′ work′ tail′ rows″ exits″ work″ tail″) (few : k < 8) (inside : exitCell r k < length exits′) where
+  apart : (q s : ℕ) → s < 8 → (q ≡ r → s ≢ k) → exitAt exits″ q s ≡ exitAt exits′ q s
+  apart q s h d = rw (t .stored) (getD-set-other exits′ (exitCell r k) (exitCell q s) (t .value) 0 (λ e. let x = exit-apart q s r k h few e in d (x .0) (x .1)))
 
-  here : getD exits″ (exitCell r k) 0 ≡ t .value
+  here : exitAt exits″ r k ≡ t .value
   here = rw (t .stored) (getD-set-same exits′ (exitCell r k) (t .value) 0 inside)
 
-  settled : (s : ℕ) → s < k + 1 → Settled p map rows″ r s (getD exits″ (exitCell r s) 0)
+  settled : (s : ℕ) → s < k + 1 → Settled p map rows″ r s (exitAt exits″ r s)
   settled s h =
       by-cases (decLt s k)
-      (λ i. rw (apart (exitCell r s) (omega arith)) (settled-on (t .onward .marks) (a .settled s i)))
+      (λ i. rw (apart r s (omega arith) (λ _ e. omega arith)) (settled-on (t .onward .marks) (a .settled s i)))
       (λ i. let e : s ≡ k = omega arith in rw (e, here) (t .settled))
 
   pub several-more : Several p map r (k + 1) rows exits work tail rows″ exits″ work″ tail″
   several-more = record {
     onward = onward-more (a .onward) (t .onward);
     settled = settled;
-    same = λ x h. apart x (h k (omega arith)) ∙ a .same x (λ s i. h s (omega arith));
+    same = λ q s h d. apart q s h (λ e i. omega (arith, d e)) ∙ a .same q s h (λ e. omega (arith, d e));
     exits-length = ap length (t .stored) ∙ length-set exits′ (exitCell r k) (t .value) ∙ a .exits-length;
   }
 
@@ -117,8 +118,8 @@ module _ {p : Picture} {map : List ℕ} {r j : ℕ} (s : ℕ) (G : Grounds p map
 -- what the next of the eight attempts asks
 pub next-needs : {F : Type 0} {p : Picture} {map : List ℕ} {r k : ℕ} {rows exits work : List ℕ} {tail : ℕ} {rows′ exits′ work′ : List ℕ} {tail′ : ℕ}
     → Taken p map exits work r → Several p map r k rows exits work tail rows′ exits′ work′ tail′ → k < 8 → F
-    → Grounds p map × (Found p map r × (Queue p map rows′ work′ tail′ × (LeavesBy map (rowsOf p) (colsOf p) (ofNumber k) r (getD exits′ (exitCell r k) 0)
-    × ((length work′ ≡ codels p) × ((exitsRoom r + 8 ≤ length exits′) × ((r < 65536) × ((k < 8) × F)))))))
+    → Grounds p map × (Found p map r × (Queue p map rows′ work′ tail′ × (LeavesBy map (rowsOf p) (colsOf p) (ofNumber k) r (exitAt exits′ r k)
+    × ((length work′ ≡ codels p) × ((exitsRoom (r + 1) ≤ length exits′) × ((r < 65536) × ((k < 8) × F)))))))
 next-needs {r = r} {k = k} T W h f = (
   T .grounds,
   (
@@ -126,7 +127,7 @@ next-needs {r = r} {k = k} T W h f = (
     (
       W .onward .queue,
       (
-        rw (W .same (exitCell r k) (λ s i. omega arith)) (T .leaving k h),
+        rw (W .same r k h (λ e. omega arith)) (T .leaving k h),
         (W .onward .work-length ∙ T .work-long, (omega (arith, W .exits-length, T .exits-long), (T .few, (h, f)))),
       ),
     ),

@@ -4,7 +4,7 @@ use mathlib.Core.Path.{_≡_}
 use mathlib.Core.Logic.{_≢_}
 use mathlib.Core.Bool.{Bool, true, false, cond, not}
 use mathlib.Core.List.{List}
-use Prim.Native.Nat.{ℕ, zero, suc, _+_, _*_, _/_, _<_, _≤_}
+use Prim.Native.Nat.{ℕ, zero, suc, _+_, _*_, _<_, _≤_}
 use lib.Dec.{eqb}
 use lib.ListN.{length, getD, set}
 use Rattle.flow.specs.Pointer.{Valid, stateNumber, ofNumber}
@@ -14,7 +14,7 @@ use Rattle.cfg.specs.Table.{Marks}
 use Rattle.colour.specs.Palette.{white}
 use Rattle.colour.specs.Decode.{decodeOf}
 use Rattle.picture.specs.Picture.{Picture, Inside, rowsOf, colsOf, codels, colourAt, codelColour, Sound}
-use Rattle.table.specs.Layout.{colourField, markField, rowCell, exitCell, rowsRoom, exitsRoom}
+use Rattle.table.specs.Layout.{colourField, markField, rowCell, exitCell, rowsRoom, exitsRoom, fieldAt, exitAt}
 use Rattle.region.specs.Tally.{more}
 use Rattle.region.specs.Grid.{gridOf}
 use Rattle.region.specs.Region.{IsMap}
@@ -27,7 +27,7 @@ use Rattle.table.specs.ExitNumber.{exitNumber}
 
 -- region r's mark
 abbrev pub mark : List ℕ → ℕ → ℕ
-mark rows r = getD rows (rowCell r markField) 0
+mark rows r = fieldAt rows r markField
 
 -- how many of the first n regions have no mark
 unfoldable pub bare : ℕ → List ℕ → ℕ
@@ -89,13 +89,13 @@ pub record Queue (p : Picture) (map rows work : List ℕ) (tail : ℕ) : Type 0 
   pub bit : (r : ℕ) → mark rows r ≤ 1
   pub seen : (r : ℕ) → mark rows r ≡ 1 → (q : ℕ) × (q < tail) × (getD work q 0 ≡ r)
 
--- the queue has grown: marks and what is queued stay, and no other cell of a row changes
+-- the queue has grown: marks and what is queued stay, and no other field of a row changes
 pub record Onward (p : Picture) (map rows work : List ℕ) (tail : ℕ) (rows′ work′ : List ℕ) (tail′ : ℕ) : Type 0 where
   pub queue : Queue p map rows′ work′ tail′
   pub on : tail ≤ tail′
   pub marks : (r : ℕ) → mark rows r ≡ 1 → mark rows′ r ≡ 1
   pub old : (q : ℕ) → q < tail → getD work′ q 0 ≡ getD work q 0
-  pub cells : (r c : ℕ) → c < 4 → getD rows′ (rowCell r c) 0 ≡ getD rows (rowCell r c) 0
+  pub cells : (r f : ℕ) → f < 5 → f ≢ markField → fieldAt rows′ r f ≡ fieldAt rows r f
   pub rows-length : length rows′ ≡ length rows
   pub work-length : length work′ ≡ length work
 
@@ -127,13 +127,13 @@ pub record Tries (p : Picture) (map : List ℕ) (r s : ℕ) (rows exits work : L
 -- the states below k of region r are settled, and no other exit changes
 pub record Several (p : Picture) (map : List ℕ) (r k : ℕ) (rows exits work : List ℕ) (tail : ℕ) (rows′ exits′ work′ : List ℕ) (tail′ : ℕ) : Type 0 where
   pub onward : Onward p map rows work tail rows′ work′ tail′
-  pub settled : (s : ℕ) → s < k → Settled p map rows′ r s (getD exits′ (exitCell r s) 0)
-  pub same : (x : ℕ) → ((s : ℕ) → s < k → x ≢ exitCell r s) → getD exits′ x 0 ≡ getD exits x 0
+  pub settled : (s : ℕ) → s < k → Settled p map rows′ r s (exitAt exits′ r s)
+  pub same : (q s : ℕ) → s < 8 → (q ≡ r → k ≤ s) → exitAt exits′ q s ≡ exitAt exits q s
   pub exits-length : length exits′ ≡ length exits
 
 -- the exits hold the codels to leave by
 abbrev pub Leaving : Picture → List ℕ → List ℕ → ℕ → Type 0
-Leaving p map exits r = (s : ℕ) → s < 8 → LeavesBy map (rowsOf p) (colsOf p) (ofNumber s) r (getD exits (exitCell r s) 0)
+Leaving p map exits r = (s : ℕ) → s < 8 → LeavesBy map (rowsOf p) (colsOf p) (ofNumber s) r (exitAt exits r s)
 
 -- region r is taken from the queue: its exits hold the codels to leave by
 pub record Taken (p : Picture) (map exits work : List ℕ) (r : ℕ) : Type 0 where
@@ -141,7 +141,7 @@ pub record Taken (p : Picture) (map exits work : List ℕ) (r : ℕ) : Type 0 wh
   pub found : Found p map r
   pub leaving : Leaving p map exits r
   pub work-long : length work ≡ codels p
-  pub exits-long : exitsRoom r + 8 ≤ length exits
+  pub exits-long : exitsRoom (r + 1) ≤ length exits
   pub few : r < 65536
 
 -- what the search begins with
@@ -157,35 +157,35 @@ pub record Ready (p : Picture) (map rows exits work : List ℕ) : Type 0 where
 -- what the search leaves: the found regions are marked and their exits are settled
 pub record Searched (p : Picture) (map rows exits rows′ exits′ : List ℕ) : Type 0 where
   pub marks : (r : ℕ) → Marks (Found p map r) (mark rows′ r)
-  pub settled : (r : ℕ) → Found p map r → (s : ℕ) → s < 8 → Number p map r s (getD exits′ (exitCell r s) 0)
-  pub same : (k : ℕ) → (Found p map (k / 8) → ⊥) → getD exits′ k 0 ≡ getD exits k 0
-  pub cells : (r c : ℕ) → c < 4 → getD rows′ (rowCell r c) 0 ≡ getD rows (rowCell r c) 0
+  pub settled : (r : ℕ) → Found p map r → (s : ℕ) → s < 8 → Number p map r s (exitAt exits′ r s)
+  pub same : (r s : ℕ) → s < 8 → (Found p map r → ⊥) → exitAt exits′ r s ≡ exitAt exits r s
+  pub cells : (r f : ℕ) → f < 5 → f ≢ markField → fieldAt rows′ r f ≡ fieldAt rows r f
 
 -- a row of a region that is marked and not white
 abbrev pub isNode : List ℕ → ℕ → Bool
-isNode rows r = cond (eqb (getD rows (rowCell r colourField) 0) white) false (not (eqb (mark rows r) 0))
+isNode rows r = cond (eqb (fieldAt rows r colourField) white) false (not (eqb (mark rows r) 0))
 
 -- region r's mark and exits are kept where it is a node, and 0 where it is none
 pub data Kept (r : ℕ) (rows exits rows′ exits′ : List ℕ) : Type 0 where
-  stays : isNode rows r ≡ true → mark rows′ r ≡ mark rows r → ((s : ℕ) → s < 8 → getD exits′ (exitCell r s) 0 ≡ getD exits (exitCell r s) 0) → Kept r rows exits rows′ exits′
-  goes : isNode rows r ≡ false → mark rows′ r ≡ 0 → ((s : ℕ) → s < 8 → getD exits′ (exitCell r s) 0 ≡ 0) → Kept r rows exits rows′ exits′
+  stays : isNode rows r ≡ true → mark rows′ r ≡ mark rows r → ((s : ℕ) → s < 8 → exitAt exits′ r s ≡ exitAt exits r s) → Kept r rows exits rows′ exits′
+  goes : isNode rows r ≡ false → mark rows′ r ≡ 0 → ((s : ℕ) → s < 8 → exitAt exits′ r s ≡ 0) → Kept r rows exits rows′ exits′
 
 -- one region is kept or not, and nothing else changes
 pub record Keeps (r : ℕ) (rows exits rows′ exits′ : List ℕ) : Type 0 where
   pub kept : Kept r rows exits rows′ exits′
-  pub rows-same : (x : ℕ) → x ≢ rowCell r markField → getD rows′ x 0 ≡ getD rows x 0
-  pub exits-same : (x : ℕ) → ((s : ℕ) → s < 8 → x ≢ exitCell r s) → getD exits′ x 0 ≡ getD exits x 0
+  pub rows-same : (q f : ℕ) → f < 5 → (q ≡ r → f ≢ markField) → fieldAt rows′ q f ≡ fieldAt rows q f
+  pub exits-same : (q s : ℕ) → s < 8 → q ≢ r → exitAt exits′ q s ≡ exitAt exits q s
 
--- the exits of region r in the states below k are 0, and no other cell changes
+-- the exits of region r in the states below k are 0, and no other exit changes
 pub record Zeros (r k : ℕ) (exits exits′ : List ℕ) : Type 0 where
-  pub zero : (s : ℕ) → s < k → getD exits′ (exitCell r s) 0 ≡ 0
-  pub same : (x : ℕ) → ((s : ℕ) → s < k → x ≢ exitCell r s) → getD exits′ x 0 ≡ getD exits x 0
+  pub zero : (s : ℕ) → s < k → exitAt exits′ r s ≡ 0
+  pub same : (q s : ℕ) → s < 8 → (q ≡ r → k ≤ s) → exitAt exits′ q s ≡ exitAt exits q s
 
 -- the regions below n are kept or not, and nothing else changes
 pub record Cleared (n : ℕ) (rows exits rows′ exits′ : List ℕ) : Type 0 where
   pub each : (r : ℕ) → r < n → Kept r rows exits rows′ exits′
-  pub rows-same : (x : ℕ) → ((r : ℕ) → r < n → x ≢ rowCell r markField) → getD rows′ x 0 ≡ getD rows x 0
-  pub exits-same : (x : ℕ) → exitsRoom n ≤ x → getD exits′ x 0 ≡ getD exits x 0
+  pub rows-same : (q f : ℕ) → f < 5 → (q < n → f ≢ markField) → fieldAt rows′ q f ≡ fieldAt rows q f
+  pub exits-same : (q s : ℕ) → s < 8 → n ≤ q → exitAt exits′ q s ≡ exitAt exits q s
 
 -- the map and the rows are written; no region is marked
 pub record Begun (p : Picture) (map : List ℕ) (n : ℕ) (rows : List ℕ) : Type 0 where

@@ -1,35 +1,23 @@
 -- The table that building writes (document 01, "Building writes"). Assumes nothing.
 use mathlib.Core.Path.{_≡_}
 use mathlib.Core.List.{List}
-use Prim.Native.Nat.{ℕ, _*_, _/_, _%_, _<_, _≤_}
-use lib.ListN.{length, getD, replicate}
+use Prim.Native.Nat.{ℕ, _<_, _≤_}
+use lib.ListN.{length, replicate}
 use Rattle.flow.specs.Pointer.{stateNumber, ofNumber}
 use Rattle.flow.specs.declared.PointerState.{PointerState}
 use Rattle.cfg.specs.Nodes.{Node}
-use Rattle.picture.specs.Picture.{Picture, colsOf, codels, codelColour}
-use Rattle.table.specs.Layout.{colourField, sizeField, rowField, columnField, markField, rowCell, rowsRoom, exitsRoom, exitAt}
+use Rattle.picture.specs.Picture.{Picture, codels}
+use Rattle.table.specs.Layout.{rowsRoom, exitsRoom, exitAt, rowAt, blank}
 use Rattle.table.specs.ExitNumber.{exitNumber}
 use Rattle.region.specs.Grid.{gridOf}
 use Rattle.region.specs.Region.{IsMap}
-use Rattle.region.specs.Rows.{First}
-use Rattle.region.specs.Tally.{tally}
+use Rattle.region.specs.Rows.{Row}
 use Rattle.exit.specs.Opens.{Opens, Shut}
 
 -- 1 where A holds, 0 where it does not
 pub data Marks (A : Type 0) : ℕ → Type 0 where
   is : A → Marks A 1
   none : (A → ⊥) → Marks A 0
-
--- region r's row: "colour, size, first pixel row and column, 1 for a node else 0". The size is in codels, the first pixel in
--- pixels
-pub record Row (p : Picture) (map rows : List ℕ) (r : ℕ) : Type 0 where
-  pub first : ℕ
-  pub is-first : First map (codels p) r first
-  pub colour : getD rows (rowCell r colourField) 0 ≡ codelColour p first
-  pub size : getD rows (rowCell r sizeField) 0 ≡ tally r (codels p) map
-  pub row : getD rows (rowCell r rowField) 0 ≡ first / colsOf p * p .codel
-  pub column : getD rows (rowCell r columnField) 0 ≡ first % colsOf p * p .codel
-  pub node : Marks (Node p map r) (getD rows (rowCell r markField) 0)
 
 -- region r's exit in the state q
 pub data Exit (p : Picture) (map : List ℕ) (r : ℕ) (q : PointerState) : ℕ → Type 0 where
@@ -39,14 +27,16 @@ pub data Exit (p : Picture) (map : List ℕ) (r : ℕ) (q : PointerState) : ℕ 
   -- else "1 + target + 65,536 x new state + 524,288 x instruction"
   leads : {target i : ℕ} {u : PointerState} → Node p map r → Opens p map r q target u i → Exit p map r q (exitNumber target (stateNumber u) i)
 
--- the whole table of n regions, in the room that it needs; the work slice is left 0
+-- the whole table of n regions, in the room that it needs: "region rows, five u32 (colour, size, first pixel row and column, 1
+-- for a node else 0), exits, eight u32 a region by state"; the cells past the n regions and the work slice are 0
 pub record Builds (p : Picture) (map rows exits work : List ℕ) (n : ℕ) : Type 0 where
   pub map-long : length map ≡ codels p
   pub rows-long : length rows ≡ rowsRoom (codels p)
   pub exits-long : length exits ≡ exitsRoom (codels p)
   pub regions : IsMap (gridOf p) map n
-  pub row : (r : ℕ) → r < n → Row p map rows r
+  pub row : (r : ℕ) → r < n → Row (gridOf p) (p .codel) (codels p) map r (rowAt rows r)
+  pub node : (r : ℕ) → r < n → Marks (Node p map r) (rowAt rows r .mark)
   pub exit : (r s : ℕ) → r < n → s < 8 → Exit p map r (ofNumber s) (exitAt exits r s)
-  pub rows-rest : (k : ℕ) → rowsRoom n ≤ k → getD rows k 0 ≡ 0
-  pub exits-rest : (k : ℕ) → exitsRoom n ≤ k → getD exits k 0 ≡ 0
+  pub rows-rest : (r : ℕ) → n ≤ r → rowAt rows r ≡ blank
+  pub exits-rest : (r s : ℕ) → n ≤ r → s < 8 → exitAt exits r s ≡ 0
   pub work-zero : work ≡ replicate (codels p) 0

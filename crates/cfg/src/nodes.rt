@@ -11,7 +11,7 @@ use table::row_cell;
 
 // Whether region r is marked and not white (19).
 fn is_node(rows: &[u32], r: usize) -> bool
-    requires { ⌜ rowsRoom r + 5 ≤ length (now rows) ⌝ }
+    requires { ⌜ rowsRoom (r + 1) ≤ length (now rows) ⌝ }
     requires { ⌜ r < 65536 ⌝ }
     ensures { λ t. ⌜ t ≡ isNode (now (rows .entry)) r ⌝ }
 {
@@ -23,22 +23,22 @@ fn is_node(rows: &[u32], r: usize) -> bool
 
 // Sets the eight exits of region r to 0.
 fn clear_exits(r: usize, exits: &mut [u32])
-    requires { ⌜ exitsRoom r + 8 ≤ length (now exits) ⌝ }
+    requires { ⌜ exitsRoom (r + 1) ≤ length (now exits) ⌝ }
     requires { ⌜ r < 65536 ⌝ }
     ensures { λ _. ⌜ Zeros r 8 (now (exits .entry)) (now (exits .exit)) ⌝ }
 {
-    let at = exit_cell(r, 0);
     let mut s = 0;
     while s < 8 {
-        exits[at + s] = 0;
+        let cell = exit_cell(r, s);
+        exits[cell] = 0;
         s += 1;
     }
 }
 
 // Keeps region r's mark and exits where it is a node, and sets them to 0 where it is none.
 fn keep_region(r: usize, rows: &mut [u32], exits: &mut [u32])
-    requires { ⌜ rowsRoom r + 5 ≤ length (now rows) ⌝ }
-    requires { ⌜ exitsRoom r + 8 ≤ length (now exits) ⌝ }
+    requires { ⌜ rowsRoom (r + 1) ≤ length (now rows) ⌝ }
+    requires { ⌜ exitsRoom (r + 1) ≤ length (now exits) ⌝ }
     requires { ⌜ r < 65536 ⌝ }
     ensures { λ _. ⌜ Keeps r (now (rows .entry)) (now (exits .entry)) (now (rows .exit)) (now (exits .exit)) ⌝ }
 {

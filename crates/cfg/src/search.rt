@@ -6,7 +6,7 @@ ghost use lib.ListN.{length, getD};
 ghost use Rattle.flow.specs.Pointer.{ofNumber};
 ghost use Rattle.picture.specs.Picture.{pictureOf, rowsOf, colsOf, codels, Frames};
 ghost use Rattle.table.specs.ExitNumber.{exitNumber};
-ghost use Rattle.table.specs.Layout.{exitCell, exitsRoom};
+ghost use Rattle.table.specs.Layout.{exitsRoom, exitAt};
 ghost use Rattle.exit.specs.Leaving.{LeavesBy};
 ghost use Rattle.cfg.specs.Nodes.{Found};
 ghost use Rattle.cfg.specs.Search.{wayNumber, Room, Visit, Queued, InGrid, Grounds, Queue, Tries, Several, Taken, Ready, Searched};
@@ -147,9 +147,9 @@ fn try_state(
     requires { ⌜ Grounds (pictureOf (now colours) s) (now map) ⌝ }
     requires { ⌜ Found (pictureOf (now colours) s) (now map) r ⌝ }
     requires { ⌜ Queue (pictureOf (now colours) s) (now map) (now rows) (now work) tail ⌝ }
-    requires { ⌜ LeavesBy (now map) (rowsOf (pictureOf (now colours) s)) (colsOf (pictureOf (now colours) s)) (ofNumber state) r (getD (now exits) (exitCell r state) 0) ⌝ }
+    requires { ⌜ LeavesBy (now map) (rowsOf (pictureOf (now colours) s)) (colsOf (pictureOf (now colours) s)) (ofNumber state) r (exitAt (now exits) r state) ⌝ }
     requires { ⌜ length (now work) ≡ codels (pictureOf (now colours) s) ⌝ }
-    requires { ⌜ exitsRoom r + 8 ≤ length (now exits) ⌝ }
+    requires { ⌜ exitsRoom (r + 1) ≤ length (now exits) ⌝ }
     requires { ⌜ r < 65536 ⌝ }
     requires { ⌜ state < 8 ⌝ }
     requires { ⌜ Frames (now colours) s ⌝ }

@@ -1,19 +1,20 @@
 -- What the contracts cite is determined: a slide and an attempt have one outcome, a region has one codel to leave by in
 -- each state, and there is one table of these over given cells. Assumes nothing.
-use mathlib.Core.Path.{_≡_, refl, sym, subst, _∙_}
+use mathlib.Core.Path.{_≡_, refl, sym, ap₂, subst, _∙_}
 use mathlib.Core.Bool.{Bool, true, false}
 use mathlib.Core.Logic.{_⊎_, inl, inr}
 use mathlib.Core.List.{List}
-use Prim.Native.Nat.{ℕ, zero, suc, _*_, _/_, _%_, _<_}
+use Prim.Native.Nat.{ℕ, zero, suc, _*_, _<_}
 use native.Mathlib.Omega.{arith}
 use borrow.Author.Tests.{eqb-true, eqb-false}
 use lib.Dec.{eqb}
 use lib.ListN.{length, getD}
-use lib.Seq.{ext-getD}
-use Rattle.flow.specs.Pointer.{Valid, ofNumber}
-use Rattle.flow.proofs.Order.{valid-number}
+use Rattle.flow.specs.Pointer.{Valid, stateNumber, ofNumber}
+use Rattle.flow.proofs.Order.{valid-number, number-small}
 use Rattle.flow.specs.declared.PointerState.{PointerState}
 use Rattle.picture.specs.Picture.{Picture}
+use Rattle.table.specs.Layout.{exitCell, exitAt}
+use Rattle.table.proofs.Cells.{exit-apart, same-exits}
 use Rattle.exit.specs.declared.slide.Sight.{Sight}
 use Rattle.exit.specs.declared.slide.Sight.the-variants.{White}
 use Rattle.exit.specs.declared.slide.Slid.{Slid}
@@ -110,20 +111,14 @@ met-or map region (suc n) = go (eqb (getD map n 0) region) refl (met-or map regi
 pub only-table : (map before one two : List ℕ) (rows cols : ℕ) → 0 < cols → length map ≡ rows * cols
     → AllKept map before one rows cols 8 → AllKept map before two rows cols 8 → one ≡ two
 only-table map before one two rows cols h g A B =
-    ext-getD 0 one two (A .same-length ∙ sym (B .same-length)) (λ k l. at k (met-or map (k / 8) (length map)))
+    same-exits one two (A .same-length ∙ sym (B .same-length)) (λ r s l. at r s l (met-or map r (length map)))
   where
-    cell-is : (k j : ℕ) → getD map j 0 ≡ k / 8 → cellOf map (ofNumber (k % 8)) j ≡ k
-    cell-is k j e = omega arith
-
-    region-is : (k s j : ℕ) → s < 8 → cellOf map (ofNumber s) j ≡ k → getD map j 0 ≡ k / 8
-    region-is k s j l e = omega arith
-
-    at : (k : ℕ) → Met map (k / 8) (length map) ⊎ (Met map (k / 8) (length map) → ⊥) → getD one k 0 ≡ getD two k 0
-    at k (inl t) =
-        subst (λ (c : ℕ). getD one c 0 ≡ getD two c 0) (cell-is k (t .0) (t .2))
-        (leaving-only h g (valid-number (k % 8) (omega arith))
-        (A .leaves (k % 8) (omega arith) (t .0) (t .1)) (B .leaves (k % 8) (omega arith) (t .0) (t .1)))
-    at k (inr never) = A .others k miss ∙ sym (B .others k miss)
+    at : (r s : ℕ) → s < 8 → Met map r (length map) ⊎ (Met map r (length map) → ⊥) → exitAt one r s ≡ exitAt two r s
+    at r s l (inl t) =
+        let e : cellOf map (ofNumber s) (t .0) ≡ exitCell r s = ap₂ exitCell (t .2) (omega arith) in
+        subst (λ (c : ℕ). getD one c 0 ≡ getD two c 0) e
+        (leaving-only h g (valid-number s l) (A .leaves s l (t .0) (t .1)) (B .leaves s l (t .0) (t .1)))
+    at r s l (inr never) = A .others (exitCell r s) miss ∙ sym (B .others (exitCell r s) miss)
       where
-        miss : (s : ℕ) → s < 8 → (j : ℕ) → j < length map → cellOf map (ofNumber s) j ≡ k → ⊥
-        miss s l j m e = never (j, m, region-is k s j l e)
+        miss : (q : ℕ) → q < 8 → (j : ℕ) → j < length map → cellOf map (ofNumber q) j ≡ exitCell r s → ⊥
+        miss q k j m e = never (j, m, exit-apart (getD map j 0) (stateNumber (ofNumber q)) r s (number-small (ofNumber q) (valid-number q k)) l e .0)

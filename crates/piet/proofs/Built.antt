@@ -3,7 +3,7 @@
 --     picture-follows    of a call of `run`
 --     picture-resumed    of a call of `run` that came to MaxSteps, and a call of `resume` to a larger limit
 -- Assumes nothing.
-use mathlib.Core.Path.{_≡_, sym, ap, _∙_}
+use mathlib.Core.Path.{_≡_, sym, _∙_}
 use mathlib.Core.Bool.{true, false, true≢false}
 use mathlib.Core.List.{List, [], _∷_}
 use Prim.Native.Nat.{ℕ, suc, _<_, _≤_}
@@ -74,7 +74,7 @@ module _ {p : Picture} {map rows exits work map′ rows′ exits′ work′ : Li
   }
 
   mark-right : (r : ℕ) → r < n → wrongMark rows′ r ≡ false
-  mark-right r h = le-ltb 1 (markOf rows′ r) (rw (field-at r markField h (omega arith)) at (mark-small (B .row r h .node)))
+  mark-right r h = le-ltb 1 (markOf rows′ r) (rw (field-at r markField h (omega arith)) at (mark-small (B .node r h)))
 
   exit-right : (r s : ℕ) → r < n → s < 8 → wrongExit n (exitAt exits′ r s) ≡ false
   exit-right r s h k =

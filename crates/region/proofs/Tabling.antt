@@ -3,7 +3,7 @@
 --     counting-more     one codel more; `note-needs`: what `note` requires for it
 --     counting-whole    all codels are counted
 -- Assumes nothing.
-use mathlib.Core.Path.{_≡_, refl, sym, ap, _∙_}
+use mathlib.Core.Path.{_≡_, refl, sym, ap, subst, _∙_}
 use mathlib.Core.Logic.{_≢_, _⊎_, inl, inr, ⊎-elim, by-cases}
 use mathlib.Core.List.{List}
 use Prim.Native.Nat.{ℕ, _+_, _*_, _/_, _%_, _≤_, _<_}
@@ -12,10 +12,11 @@ use native.Mathlib.Omega.{arith}
 use lib.ListN.{length, getD, set, drop, length-set}
 use lib.Seq.{getD-set-same, getD-set-other, drop-set-lt}
 use borrow.Author.Count.{below-more}
-use Rattle.table.specs.Layout.{rowCell, rowsRoom, colourField, sizeField, rowField, columnField, markField}
+use Rattle.table.specs.Layout.{rowCell, rowsRoom, colourField, sizeField, rowField, columnField, markField, fieldAt, RowNumbers, rowAt, blank}
+use Rattle.table.proofs.Cells.{same-row}
 use Rattle.region.specs.Grid.{Grid, count}
 use Rattle.region.specs.Region.{IsMap}
-use Rattle.region.specs.Rows.{IsRow, Blank, IsTable}
+use Rattle.region.specs.Rows.{Row, IsTable}
 use Rattle.region.specs.Steps.{Noted, counted, started, begun}
 use Rattle.region.proofs.MapLaws.{map-low, map-few}
 use Rattle.region.proofs.TallyLaws.{tally-most, tally-some, tally-hit, tally-miss, tally-none}
@@ -24,68 +25,55 @@ use Rattle.region.proofs.TallyLaws.{tally-most, tally-some, tally-hit, 
 abbrev Absent : List ℕ → ℕ → ℕ → Type 0
 Absent m n r = (j : ℕ) → j < n → getD m j 0 ≢ r
 
--- row r is that of the codels below n, and blank where none of them is of its region
+-- row r is that of the codels below n, without a mark, and blank where none of them is of its region
 abbrev RowSoFar : Grid → ℕ → ℕ → List ℕ → List ℕ → ℕ → Type 0
-RowSoFar g codel n m t r = IsRow g codel n m t r ⊎ (Blank t r × Absent m n r)
-
--- the row r is the same in two tables
-abbrev SameRow : List ℕ → List ℕ → ℕ → Type 0
-SameRow t t′ r = (f : ℕ) → f < 5 → getD t′ (rowCell r f) 0 ≡ getD t (rowCell r f) 0
+RowSoFar g codel n m t r = (Row g codel n m r (rowAt t r) × (rowAt t r .mark ≡ 0)) ⊎ ((rowAt t r ≡ blank) × Absent m n r)
 
 -- a row that no store touches, as a codel of another region is counted
-module _ (g : Grid) (codel i : ℕ) (m t t′ : List ℕ) (r : ℕ) (long : i < length m) (other : getD m i 0 ≢ r) (same : SameRow t t′ r) where
-  kept-blank : Blank t r → Blank t′ r
-  kept-blank b = record {
-    colour = same colourField (omega arith) ∙ b .colour;
-    size = same sizeField (omega arith) ∙ b .size;
-    row = same rowField (omega arith) ∙ b .row;
-    col = same columnField (omega arith) ∙ b .col;
-    node = same markField (omega arith) ∙ b .node;
-  }
-
-  kept-row : IsRow g codel i m t r → IsRow g codel (i + 1) m t′ r
+module _ (g : Grid) (codel i : ℕ) (m t t′ : List ℕ) (r : ℕ) (long : i < length m) (other : getD m i 0 ≢ r) (same : rowAt t r ≡ rowAt t′ r) where
+  kept-row : Row g codel i m r (rowAt t r) → Row g codel (i + 1) m r (rowAt t r)
   kept-row a = record {
     first = a .first;
-    is = record { inside = omega (arith, a .is .inside); has = a .is .has; none = a .is .none };
-    colour = same colourField (omega arith) ∙ a .colour;
-    size = same sizeField (omega arith) ∙ a .size ∙ sym (tally-miss r i m long other);
-    row = same rowField (omega arith) ∙ a .row;
-    col = same columnField (omega arith) ∙ a .col;
-    node = same markField (omega arith) ∙ a .node;
+    is-first = record { inside = omega (arith, a .is-first .inside); has = a .is-first .has; none = a .is-first .none };
+    colour = a .colour;
+    size = a .size ∙ sym (tally-miss r i m long other);
+    row = a .row;
+    column = a .column;
   }
 
   untouched : RowSoFar g codel i m t r → RowSoFar g codel (i + 1) m t′ r
   untouched =
       ⊎-elim
-      (λ a. inl (kept-row a))
-      (λ a. inr (kept-blank (a .0), below-more (λ (j : ℕ). getD m j 0 ≢ r) i (a .1) other))
+      (λ a. inl (subst (Row g codel (i + 1) m r) same (kept-row (a .0)), ap (λ (x : RowNumbers). x .mark) (sym same) ∙ a .1))
+      (λ a. inr (sym same ∙ a .0, below-more (λ (j : ℕ). getD m j 0 ≢ r) i (a .1) other))
 
 module _ (g : Grid) (codel i : ℕ) (m t : List ℕ) (q : ℕ) (here : getD m i 0 ≡ q) (long : i < length m) (room : rowCell q markField < length t) where
   -- the codel is not the first of its region
-  module _ (a : IsRow g codel i m t q) where
-    counted-row : IsRow g codel (i + 1) m (set t (rowCell q sizeField) (getD t (rowCell q sizeField) 0 + 1)) q
+  module _ (a : Row g codel i m q (rowAt t q)) where
+    abbrev t₁ : List ℕ
+    t₁ = set t (rowCell q sizeField) (fieldAt t q sizeField + 1)
+
+    past : (f : ℕ) → f ≢ sizeField → fieldAt t₁ q f ≡ fieldAt t q f
+    past f d = getD-set-other t (rowCell q sizeField) (rowCell q f) (fieldAt t q sizeField + 1) 0 (omega arith)
+
+    counted-row : Row g codel (i + 1) m q (rowAt t₁ q)
     counted-row = record {
       first = a .first;
-      is = record { inside = omega (arith, a .is .inside); has = a .is .has; none = a .is .none };
+      is-first = record { inside = omega (arith, a .is-first .inside); has = a .is-first .has; none = a .is-first .none };
       colour = past colourField (omega arith) ∙ a .colour;
       size =
-          getD-set-same t (rowCell q sizeField) (getD t (rowCell q sizeField) 0 + 1) 0 (omega arith)
+          getD-set-same t (rowCell q sizeField) (fieldAt t q sizeField + 1) 0 (omega arith)
           ∙ ap (λ (x : ℕ). x + 1) (a .size)
           ∙ sym (tally-hit q i m long here);
       row = past rowField (omega arith) ∙ a .row;
-      col = past columnField (omega arith) ∙ a .col;
-      node = past markField (omega arith) ∙ a .node;
+      column = past columnField (omega arith) ∙ a .column;
     }
-      where
-        past : (f : ℕ) → f ≢ sizeField
-            → getD (set t (rowCell q sizeField) (getD t (rowCell q sizeField) 0 + 1)) (rowCell q f) 0 ≡ getD t (rowCell q f) 0
-        past f d = getD-set-other t (rowCell q sizeField) (rowCell q f) (getD t (rowCell q sizeField) 0 + 1) 0 (omega arith)
 
-    not-zero : getD t (rowCell q sizeField) 0 ≢ 0
-    not-zero e = omega (arith, a .size, tally-some q i m (a .first) (a .is .inside) (omega (arith, a .is .inside)) (a .is .has))
+    not-zero : fieldAt t q sizeField ≢ 0
+    not-zero e = omega (arith, a .size, tally-some q i m (a .first) (a .is-first .inside) (omega (arith, a .is-first .inside)) (a .is-first .has))
 
   -- the codel is the first of its region
-  begun-row : Blank t q → Absent m i q → IsRow g codel (i + 1) m (begun g codel i q t) q
+  begun-row : rowAt t q ≡ blank → Absent m i q → Row g codel (i + 1) m q (rowAt (begun g codel i q t) q) × (rowAt (begun g codel i q t) q .mark ≡ 0)
   unfolding begun
   begun-row b none =
       let row = i / g .cols * codel in
@@ -95,44 +83,50 @@ module _ (g : Grid) (codel i : ℕ) (m t : List ℕ) (q : ℕ) (here : getD m i 
       let t₃ = set t₂ (rowCell q rowField) row in
       let l₁ : length t₁ ≡ length t = length-set t (rowCell q colourField) (g .colour i) in
       let l₂ : length t₂ ≡ length t₁ = length-set t₁ (rowCell q sizeField) 1 in
-      let l₃ : length t₃ ≡ length t₂ = length-set t₂ (rowCell q rowField) row in
-      record {
-        first = i;
-        is = record { inside = omega arith; has = here; none = none };
-        colour =
-            getD-set-other t₃ (rowCell q columnField) (rowCell q colourField) col 0 (omega arith)
-            ∙ getD-set-other t₂ (rowCell q rowField) (rowCell q colourField) row 0 (omega arith)
-            ∙ getD-set-other t₁ (rowCell q sizeField) (rowCell q colourField) 1 0 (omega arith)
-            ∙ getD-set-same t (rowCell q colourField) (g .colour i) 0 (omega arith);
-        size =
-            getD-set-other t₃ (rowCell q columnField) (rowCell q sizeField) col 0 (omega arith)
-            ∙ getD-set-other t₂ (rowCell q rowField) (rowCell q sizeField) row 0 (omega arith)
-            ∙ getD-set-same t₁ (rowCell q sizeField) 1 0 (omega arith)
-            ∙ omega (arith, tally-none q i m none, tally-hit q i m long here);
-        row =
-            getD-set-other t₃ (rowCell q columnField) (rowCell q rowField) col 0 (omega arith)
-            ∙ getD-set-same t₂ (rowCell q rowField) row 0 (omega arith);
-        col = getD-set-same t₃ (rowCell q columnField) col 0 (omega arith);
-        node =
-            getD-set-other t₃ (rowCell q columnField) (rowCell q markField) col 0 (omega arith)
+      let l₃ : length t₃ ≡ length t₂ = length-set t₂ (rowCell q rowField) row in (
+        record {
+          first = i;
+          is-first = record { inside = omega arith; has = here; none = none };
+          colour =
+              getD-set-other t₃ (rowCell q columnField) (rowCell q colourField) col 0 (omega arith)
+              ∙ getD-set-other t₂ (rowCell q rowField) (rowCell q colourField) row 0 (omega arith)
+              ∙ getD-set-other t₁ (rowCell q sizeField) (rowCell q colourField) 1 0 (omega arith)
+              ∙ getD-set-same t (rowCell q colourField) (g .colour i) 0 (omega arith);
+          size =
+              getD-set-other t₃ (rowCell q columnField) (rowCell q sizeField) col 0 (omega arith)
+              ∙ getD-set-other t₂ (rowCell q rowField) (rowCell q sizeField) row 0 (omega arith)
+              ∙ getD-set-same t₁ (rowCell q sizeField) 1 0 (omega arith)
+              ∙ omega (arith, tally-none q i m none, tally-hit q i m long here);
+          row =
+              getD-set-other t₃ (rowCell q columnField) (rowCell q rowField) col 0 (omega arith)
+              ∙ getD-set-same t₂ (rowCell q rowField) row 0 (omega arith);
+          column = getD-set-same t₃ (rowCell q columnField) col 0 (omega arith);
+        },
+        getD-set-other t₃ (rowCell q columnField) (rowCell q markField) col 0 (omega arith)
             ∙ getD-set-other t₂ (rowCell q rowField) (rowCell q markField) row 0 (omega arith)
             ∙ getD-set-other t₁ (rowCell q sizeField) (rowCell q markField) 1 0 (omega arith)
             ∙ getD-set-other t (rowCell q colourField) (rowCell q markField) (g .colour i) 0 (omega arith)
-            ∙ b .node;
-      }
+            ∙ ap (λ (x : RowNumbers). x .mark) b,
+      )
 
 -- another row is not touched
-other-counted : (t : List ℕ) (q v r : ℕ) → r ≢ q → SameRow t (set t (rowCell q sizeField) v) r
-other-counted t q v r d f l = getD-set-other t (rowCell q sizeField) (rowCell r f) v 0 (omega arith)
+other-counted : (t : List ℕ) (q v r : ℕ) → r ≢ q → rowAt t r ≡ rowAt (set t (rowCell q sizeField) v) r
+other-counted t q v r d = same-row (past colourField (omega arith)) (past sizeField (omega arith)) (past rowField (omega arith)) (past columnField (omega arith)) (past markField (omega arith))
+  where
+    past : (f : ℕ) → f < 5 → fieldAt t r f ≡ fieldAt (set t (rowCell q sizeField) v) r f
+    past f l = sym (getD-set-other t (rowCell q sizeField) (rowCell r f) v 0 (omega arith))
 
-other-begun : (g : Grid) (codel i q : ℕ) (t : List ℕ) (r : ℕ) → r ≢ q → SameRow t (begun g codel i q t) r
+other-begun : (g : Grid) (codel i q : ℕ) (t : List ℕ) (r : ℕ) → r ≢ q → rowAt t r ≡ rowAt (begun g codel i q t) r
 unfolding begun
-other-begun g codel i q t r d f l =
-    let a : rowCell r f ≢ rowCell q colourField = omega arith in
-    let b : rowCell r f ≢ rowCell q sizeField = omega arith in
-    let c : rowCell r f ≢ rowCell q rowField = omega arith in
-    let e : rowCell r f ≢ rowCell q columnField = omega arith in
-    simp getD-set-other
+other-begun g codel i q t r d = same-row (past colourField (omega arith)) (past sizeField (omega arith)) (past rowField (omega arith)) (past columnField (omega arith)) (past markField (omega arith))
+  where
+    past : (f : ℕ) → f < 5 → fieldAt t r f ≡ fieldAt (begun g codel i q t) r f
+    past f l =
+        let a : rowCell r f ≢ rowCell q colourField = omega arith in
+        let b : rowCell r f ≢ rowCell q sizeField = omega arith in
+        let c : rowCell r f ≢ rowCell q rowField = omega arith in
+        let e : rowCell r f ≢ rowCell q columnField = omega arith in
+        simp getD-set-other
 
 row-more : (g : Grid) (codel i : ℕ) (m t : List ℕ) {t′ : List ℕ} → i < length m → getD m i 0 < count g
     → rowsRoom (count g) ≤ length t
@@ -143,8 +137,8 @@ row-more g codel i m t long inside room a (counted some) r h =
     (λ e.
     rw e
     (⊎-elim
-    (λ b. inl (counted-row g codel i m t (getD m i 0) refl long (omega arith) b))
-    (λ b. absurd (some (b .0 .size)))
+    (λ b. inl (counted-row g codel i m t (getD m i 0) refl long (omega arith) (b .0), past g codel i m t (getD m i 0) refl long (omega arith) (b .0) markField (omega arith) ∙ b .1))
+    (λ b. absurd (some (ap (λ (x : RowNumbers). x .size) (b .0))))
     (a (getD m i 0) inside)))
     (λ d.
     let size = rowCell (getD m i 0) sizeField in
@@ -154,7 +148,7 @@ row-more g codel i m t long inside room a (started none) r h =
     (λ e.
     rw e
     (⊎-elim
-    (λ b. absurd (not-zero g codel i m t (getD m i 0) refl long (omega arith) b none))
+    (λ b. absurd (not-zero g codel i m t (getD m i 0) refl long (omega arith) (b .0) none))
     (λ b. inl (begun-row g codel i m t (getD m i 0) refl long (omega arith) (b .0) (b .1)))
     (a (getD m i 0) inside)))
     (λ d. untouched g codel i m t (begun g codel i (getD m i 0) t) r long (λ e. d (sym e)) (other-begun g codel i (getD m i 0) t r d) (a r h))
@@ -193,13 +187,12 @@ counting-none zeros = record {
   most = omega arith;
   rows = λ r h.
       inr (
-        record {
-          colour = zeros (rowCell r colourField) (omega arith);
-          size = zeros (rowCell r sizeField) (omega arith);
-          row = zeros (rowCell r rowField) (omega arith);
-          col = zeros (rowCell r columnField) (omega arith);
-          node = zeros (rowCell r markField) (omega arith);
-        },
+        same-row
+            (zeros (rowCell r colourField) (omega arith))
+            (zeros (rowCell r sizeField) (omega arith))
+            (zeros (rowCell r rowField) (omega arith))
+            (zeros (rowCell r columnField) (omega arith))
+            (zeros (rowCell r markField) (omega arith)),
         λ j k. absurd (omega arith),
       );
   same-length = refl;
@@ -212,7 +205,7 @@ module _ {g : Grid} {codel n : ℕ} {m t₀ : List ℕ} (a : IsMap g m n) (room 
 
   -- a region's size so far is at most the codels counted
   size-most : getD t (rowCell (getD m i 0) sizeField) 0 ≤ i
-  size-most = ⊎-elim (λ b. omega (arith, b .size, tally-most (getD m i 0) i m)) (λ b. omega (arith, b .0 .size)) (x .rows (getD m i 0) small)
+  size-most = ⊎-elim (λ b. omega (arith, b .0 .size, tally-most (getD m i 0) i m)) (λ b. omega (arith, ap (λ (y : RowNumbers). y .size) (b .0))) (x .rows (getD m i 0) small)
 
   pub note-needs : (i < length m) × ((getD m i 0 < count g) × ((rowsRoom (count g) ≤ length t) × (getD t (rowCell (getD m i 0) sizeField) 0 ≤ i)))
   note-needs = (omega (arith, a .long), (small, (omega (arith, x .same-length), size-most)))
@@ -227,13 +220,16 @@ module _ {g : Grid} {codel n : ℕ} {m t₀ : List ℕ} (a : IsMap g m n) (room 
 
 pub counting-whole : {g : Grid} {codel n i : ℕ} {m t₀ t : List ℕ} → IsMap g m n → Counting g codel i m t₀ t → count g ≤ i
     → IsTable g codel n m t
-counting-whole {g} {n = n} {i = i} {m = m} a x all =
+counting-whole {g} {codel} {n} {i} {m} {t = t} a x all =
     let e : i ≡ count g = omega (arith, x .most) in
     let b = rw e at (x .rows) in
     record {
-      rows = λ r h.
-          let (j, k, e) = a .each r h in
-          ⊎-elim (λ y. y) (λ y. absurd (y .1 j k e)) (b r (omega (arith, map-few g m n a)));
+      rows = λ r h. begun-so-far r h (b r (omega (arith, map-few g m n a))) .0;
+      unmarked = λ r h. begun-so-far r h (b r (omega (arith, map-few g m n a))) .1;
       rest = λ r h k.
-          ⊎-elim (λ y. absurd (omega (arith, a .below (y .first) (y .is .inside), y .is .has))) (λ y. y .0) (b r k);
+          ⊎-elim (λ y. absurd (omega (arith, a .below (y .0 .first) (y .0 .is-first .inside), y .0 .is-first .has))) (λ y. y .0) (b r k);
     }
+  where
+    -- a region of the map has a codel
+    begun-so-far : (r : ℕ) → r < n → RowSoFar g codel (count g) m t r → Row g codel (count g) m r (rowAt t r) × (rowAt t r .mark ≡ 0)
+    begun-so-far r h = let (j, k, e) = a .each r h in ⊎-elim (λ y. y) (λ y. absurd (y .1 j k e))

@@ -4,7 +4,7 @@ use mathlib.Core.Logic.{_≢_}
 use mathlib.Core.List.{List}
 use Prim.Native.Nat.{ℕ, _*_, _/_, _%_, _≤_, _<_}
 use lib.ListN.{getD}
-use Rattle.table.specs.Layout.{rowCell, colourField, sizeField, rowField, columnField, markField}
+use Rattle.table.specs.Layout.{RowNumbers, rowAt, blank}
 use Rattle.region.specs.Grid.{Grid, count}
 use Rattle.region.specs.Tally.{tally}
 
@@ -14,26 +14,18 @@ pub record First (m : List ℕ) (n r i : ℕ) : Type 0 where
   pub has : getD m i 0 ≡ r
   pub none : (j : ℕ) → j < i → getD m j 0 ≢ r
 
--- "region rows, five u32 (colour, size, first pixel row and column, 1 for a node else 0)": the row of region r, where the
--- map's codels below n are counted; no node is known yet
-pub record IsRow (g : Grid) (codel n : ℕ) (m t : List ℕ) (r : ℕ) : Type 0 where
+-- "region rows, five u32 (colour, size, first pixel row and column, ..)": x has the colour, the size and the first pixel of
+-- region r, where the map's codels below n are counted. The size is in codels, the first pixel in pixels
+pub record Row (g : Grid) (codel n : ℕ) (m : List ℕ) (r : ℕ) (x : RowNumbers) : Type 0 where
   pub first : ℕ
-  pub is : First m n r first
-  pub colour : getD t (rowCell r colourField) 0 ≡ g .colour first
-  pub size : getD t (rowCell r sizeField) 0 ≡ tally r n m
-  pub row : getD t (rowCell r rowField) 0 ≡ first / g .cols * codel
-  pub col : getD t (rowCell r columnField) 0 ≡ first % g .cols * codel
-  pub node : getD t (rowCell r markField) 0 ≡ 0
+  pub is-first : First m n r first
+  pub colour : x .colour ≡ g .colour first
+  pub size : x .size ≡ tally r n m
+  pub row : x .row ≡ first / g .cols * codel
+  pub column : x .column ≡ first % g .cols * codel
 
--- a row of zeros
-pub record Blank (t : List ℕ) (r : ℕ) : Type 0 where
-  pub colour : getD t (rowCell r colourField) 0 ≡ 0
-  pub size : getD t (rowCell r sizeField) 0 ≡ 0
-  pub row : getD t (rowCell r rowField) 0 ≡ 0
-  pub col : getD t (rowCell r columnField) 0 ≡ 0
-  pub node : getD t (rowCell r markField) 0 ≡ 0
-
--- a row for each of the n regions; "row .. cells past the n regions, up to that room, become 0"
+-- a row for each of the n regions, no node being known yet; "row .. cells past the n regions, up to that room, become 0"
 pub record IsTable (g : Grid) (codel n : ℕ) (m t : List ℕ) : Type 0 where
-  pub rows : (r : ℕ) → r < n → IsRow g codel (count g) m t r
-  pub rest : (r : ℕ) → n ≤ r → r < count g → Blank t r
+  pub rows : (r : ℕ) → r < n → Row g codel (count g) m r (rowAt t r)
+  pub unmarked : (r : ℕ) → r < n → rowAt t r .mark ≡ 0
+  pub rest : (r : ℕ) → n ≤ r → r < count g → rowAt t r ≡ blank

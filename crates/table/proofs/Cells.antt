@@ -1,9 +1,17 @@
 -- Which cell is whose: a cell of the rows is one field of one region, a cell of the exits one state of one region. What
--- speaks of all cells goes through these laws, so that the layout is known here alone. Assumes nothing.
-use mathlib.Core.Path.{_≡_, subst}
-use Prim.Native.Nat.{ℕ, _/_, _%_, _<_, _≤_}
+-- speaks of all cells goes through these laws, so that the layout is known here alone.
+--     row-split, exit-split      the region and the field, or the state, of a cell
+--     row-in, row-past, ..       which cells are of the first n regions
+--     row-apart, exit-apart      two of them share no cell
+--     same-rows, same-exits      two lists with the same rows, or the same exits, are equal
+-- Assumes nothing.
+use mathlib.Core.Path.{_≡_, refl, sym, ap, subst, _∙_}
+use mathlib.Core.List.{List}
+use Prim.Native.Nat.{ℕ, zero, suc, _/_, _%_, _<_, _≤_}
 use native.Mathlib.Omega.{arith}
-use Rattle.table.specs.Layout.{rowCell, exitCell, rowsRoom, exitsRoom}
+use lib.ListN.{length, getD}
+use lib.Seq.{ext-getD}
+use Rattle.table.specs.Layout.{rowCell, exitCell, rowsRoom, exitsRoom, fieldAt, exitAt, RowNumbers, rowAt, blank}
 
 -- the region and the field that a cell of the rows is of
 pub record RowCell (k : ℕ) : Type 0 where
@@ -58,3 +66,46 @@ each-row-cell P h k = let x = row-split k in subst P (x .is) (h (x .region) (x .
 
 pub each-exit-cell : (P : ℕ → Type 0) → ((r s : ℕ) → s < 8 → P (exitCell r s)) → (k : ℕ) → P k
 each-exit-cell P h k = let x = exit-split k in subst P (x .is) (h (x .region) (x .state) (x .few))
+
+-- two rows with the same five numbers are the same, and so are their fields
+pub same-row : {x y : RowNumbers} → x .colour ≡ y .colour → x .size ≡ y .size → x .row ≡ y .row → x .column ≡ y .column → x .mark ≡ y .mark → x ≡ y
+same-row a b c d e = λ i. record { colour = a i; size = b i; row = c i; column = d i; mark = e i }
+
+-- the number of a field
+abbrev numberAt : RowNumbers → ℕ → ℕ
+numberAt x zero = x .colour
+numberAt x (suc zero) = x .size
+numberAt x (suc (suc zero)) = x .row
+numberAt x (suc (suc (suc zero))) = x .column
+numberAt x (suc (suc (suc (suc f)))) = x .mark
+
+number-is : (rows : List ℕ) (r f : ℕ) → f < 5 → numberAt (rowAt rows r) f ≡ fieldAt rows r f
+number-is rows r zero h = refl
+number-is rows r (suc zero) h = refl
+number-is rows r (suc (suc zero)) h = refl
+number-is rows r (suc (suc (suc zero))) h = refl
+number-is rows r (suc (suc (suc (suc zero)))) h = refl
+number-is rows r (suc (suc (suc (suc (suc f))))) h = absurd (omega arith)
+
+-- the fields of a row are its numbers
+pub row-fields : (rows rows′ : List ℕ) (r : ℕ) → rowAt rows r ≡ rowAt rows′ r → (f : ℕ) → f < 5 → fieldAt rows r f ≡ fieldAt rows′ r f
+row-fields rows rows′ r e f h = sym (number-is rows r f h) ∙ ap (λ (x : RowNumbers). numberAt x f) e ∙ number-is rows′ r f h
+
+pub blank-fields : (rows : List ℕ) (r : ℕ) → rowAt rows r ≡ blank → (f : ℕ) → f < 5 → fieldAt rows r f ≡ 0
+blank-fields rows r e f h = sym (number-is rows r f h) ∙ ap (λ (x : RowNumbers). numberAt x f) e ∙ none f
+  where
+    none : (f : ℕ) → numberAt blank f ≡ 0
+    none zero = refl
+    none (suc zero) = refl
+    none (suc (suc zero)) = refl
+    none (suc (suc (suc zero))) = refl
+    none (suc (suc (suc (suc f)))) = refl
+
+-- two lists of one length that have the same rows, or the same exits, are equal
+pub same-rows : (rows rows′ : List ℕ) → length rows ≡ length rows′ → ((r : ℕ) → rowAt rows r ≡ rowAt rows′ r) → rows ≡ rows′
+same-rows rows rows′ l same =
+    ext-getD 0 rows rows′ l (λ k h. each-row-cell (λ (c : ℕ). getD rows c 0 ≡ getD rows′ c 0) (λ r f few. row-fields rows rows′ r (same r) f few) k)
+
+pub same-exits : (exits exits′ : List ℕ) → length exits ≡ length exits′ → ((r s : ℕ) → s < 8 → exitAt exits r s ≡ exitAt exits′ r s) → exits ≡ exits′
+same-exits exits exits′ l same =
+    ext-getD 0 exits exits′ l (λ k h. each-exit-cell (λ (c : ℕ). getD exits c 0 ≡ getD exits′ c 0) same k)

@@ -39,3 +39,25 @@ fieldAt rows region field = getD rows (rowCell region field) 0
 
 abbrev pub exitAt : List ℕ → ℕ → ℕ → ℕ
 exitAt exits region state = getD exits (exitCell region state) 0
+
+-- the numbers of a row, apart from where they stand
+pub record RowNumbers : Type 0 where
+  pub colour : ℕ
+  pub size : ℕ
+  pub row : ℕ
+  pub column : ℕ
+  pub mark : ℕ
+
+-- a region's row
+abbrev pub rowAt : List ℕ → ℕ → RowNumbers
+rowAt rows region = record {
+  colour = fieldAt rows region colourField;
+  size = fieldAt rows region sizeField;
+  row = fieldAt rows region rowField;
+  column = fieldAt rows region columnField;
+  mark = fieldAt rows region markField;
+}
+
+-- a row of zeros
+abbrev pub blank : RowNumbers
+blank = record { colour = 0; size = 0; row = 0; column = 0; mark = 0 }

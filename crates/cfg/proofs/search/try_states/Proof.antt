@@ -44,7 +44,7 @@ loop-again c =
     let the-loop = c .before .before .before .before .before .before .before .before .before .before .before .loop in
     let the-try-state = c .before .before .before .before .before .before .try-state in
     let the-pre = c .before .before .before .before .before .before .before .before .before .before .before .before .before .before .before .before .before .pre in
-    (omega (arith, the-loop-test .taken), several-more (the-loop .inv .1) (the-try-state .ensures) (omega (arith, the-loop .inv .1 .exits-length, the-pre .0 .exits-long, the-loop-test .taken)))
+    (omega (arith, the-loop-test .taken), several-more (the-loop .inv .1) (the-try-state .ensures) (the-loop-test .taken) (omega (arith, the-loop .inv .1 .exits-length, the-pre .0 .exits-long, the-loop-test .taken)))
 
 same-length : tie.Need-same-length Inv-loop μ-loop
 same-length c = c .before .loop .inv .1 .onward .rows-length
