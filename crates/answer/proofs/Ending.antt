@@ -21,7 +21,7 @@ use Rattle.cfg.proofs.Refusing as building
 use Rattle.machine.specs.Held.{Slices}
 use Rattle.interpreter.specs.Run.{End}
 use Rattle.interpreter.specs.Outcome.{slicesOf, endedOf}
-use Rattle.piet.specs.RunPicture.{Lends, lends, RanPicture, given}
+use Rattle.piet.specs.RunPicture.{Lends, lends, RanPicture, askedPicture, given}
 use Rattle.piet.specs.RunPicture as running
 use Rattle.piet.proofs.Refusing as picture
 use Rattle.piet.proofs.Seeing.{legal-under}

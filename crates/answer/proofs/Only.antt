@@ -19,6 +19,7 @@ use Rattle.piet.proofs.FollowsOnly.{picture-only}
 use Rattle.job.specs.Encoding.{Content}
 use Rattle.job.proofs.Only.{content-only}
 use Rattle.report.specs.Text.{refusalText}
+use Rattle.piet.specs.RunPicture.{askedPicture}
 use Rattle.answer.specs.Answer.{askedOf, refusalOf, givenOf, Labels, Ran, endText, Answers, no-job, refused, ran, Outcome, short, printed}
 use Rattle.answer.proofs.Ending.{enough}
 

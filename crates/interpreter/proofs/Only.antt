@@ -1,4 +1,4 @@
--- Two outcomes that a contract allows for one input are equal, answer and every slices list, for each public function:
+-- Two outcomes that a contract allows for one input are equal, answer and every lent list, for each public function:
 --     run                       run-only
 --     resume                    resume-only
 --     determine_runs_forever    forever-only
@@ -60,7 +60,7 @@ module _ (n : ℕ) (rows exits : List ℕ) (limit : ℕ) (mode : Bool) (input : 
       go true = refl
       go false = refl
 
-  -- 10 exactly where the table is not valid, and then "no slices byte changes"
+  -- 10 exactly where the table is not valid, and then "no lent byte changes"
   pub record Refusal (r : Ran) (stack : List ℤ) (kinds : List ℕ) (values : List ℤ) : Type 0 where
     pub given : validOf n rows exits ≡ false → numbered r ≡ refused
     pub only-then : (values : List ℕ) → numbered r ≡ numbers 10 values → validOf n rows exits ≡ false
@@ -97,7 +97,7 @@ module _ (n : ℕ) (rows exits : List ℕ) (limit : ℕ) (mode : Bool) (input : 
             λ _. (ap (λ (x : Outcome). x .slices .stack) q, ap (λ (x : Outcome). x .slices .kinds) q, ap (λ (x : Outcome). x .slices .values) q);
       }
 
--- a call leaves the length of a slices slice as it is
+-- a call leaves the length of a lent slice as it is
 module _ (n : ℕ) (rows exits : List ℕ) (limit : ℕ) (mode : Bool) (input : List ℕ) (l : Slices) (from : State) where
   pub resume-only : (l′ l″ : Slices) (r r′ : Ended) → AsLong l′ l → AsLong l″ l
       → Resumed n rows exits limit mode input l from l′ r → Resumed n rows exits limit mode input l from l″ r′

@@ -1,6 +1,6 @@
 -- A larger limit, and a run in two parts.
 --     larger-limit            a larger limit tells nothing different of a run that stopped otherwise;
---     larger-limit-outcome    the same of a call, answer and every slices cell
+--     larger-limit-outcome    the same of a call, answer and every lent cell
 --     run-on                  a run of a + b steps is a run of a steps and, where that came to MaxSteps, of b steps from there
 --     resumes                 a run to the limit a that came to MaxSteps, resumed to the limit a + b, is the run to a + b;
 --     resume-on               the same of two calls of `resume`
@@ -39,7 +39,7 @@ module _ (j : Job) where
       go (goes m′) h f = f m′ h
       go (halts s) h f = refl
 
--- the same of a call: answer and every slices cell
+-- the same of a call: answer and every lent cell
 pub larger-limit-outcome : (n : ℕ) (rows exits : List ℕ) (limit d : ℕ) (mode : Bool) (input : List ℕ) (l : Slices)
     → (runOf (jobOf rows exits mode input l) limit start .stop ≡ MaxSteps → ⊥)
     → outcomeOf n rows exits (limit + d) mode input l ≡ outcomeOf n rows exits limit mode input l

@@ -1,4 +1,4 @@
--- The run: the slices table and refusal 10, one step, steps until a stop, what a call answers, and how the code holds it.
+-- The run: the lent table and refusal 10, one step, steps until a stop, what a call answers, and how the code holds it.
 pub mod Table
 pub mod Forever
 pub mod Run

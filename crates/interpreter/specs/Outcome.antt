@@ -1,4 +1,4 @@
--- What a call of a run answers and leaves in the slices slices (document 01, "The run"). Assumes nothing.
+-- What a call of a run answers and leaves in the lent slices (document 01, "The run"). Assumes nothing.
 use mathlib.Core.Bool.{Bool, cond}
 use mathlib.Core.List.{List, [], _∷_, _++_, map, reverse}
 use Prim.Native.Nat.{ℕ, _-_}
@@ -40,7 +40,7 @@ placeOf m = record { region = m .region; steps = m .steps; core = coreOf (m .sto
 abbrev pub endedOf : End → Ended
 endedOf e = record { stop = e .stop; at = placeOf (e .at) }
 
--- the answer, and the three slices slices after the call
+-- the answer, and the three lent slices after the call
 pub record Outcome : Type 0 where
   pub answer : Ran
   pub slices : Slices
@@ -54,7 +54,7 @@ jobOf rows exits mode input l = record { rows = rows; exits = exits; mode = mode
 abbrev pub finished : Slices → End → Outcome
 finished l e = record { answer = Finished (endedOf e); slices = slicesOf l (e .at .store) }
 
--- a run from the start; where the table is refused, "no slices byte changes"
+-- a run from the start; where the table is refused, "no lent byte changes"
 abbrev pub outcomeOf : ℕ → List ℕ → List ℕ → ℕ → Bool → List ℕ → Slices → Outcome
 outcomeOf n rows exits limit mode input l =
     cond (validOf n rows exits) (finished l (runOf (jobOf rows exits mode input l) limit start))

@@ -1,4 +1,4 @@
--- The slices table as a run reads it: refusal 10, a region's size, and the exit taken (document 01, "The run" and "Regions and
+-- The lent table as a run reads it: refusal 10, a region's size, and the exit taken (document 01, "The run" and "Regions and
 -- exits"). Where rows and exits stand, and what an exit number says, is the crate table's. Assumes nothing.
 use mathlib.Core.Bool.{Bool, true, false, cond, not, _&&_, _||_}
 use mathlib.Core.List.{List}

@@ -1,4 +1,4 @@
-// The run over a slices table of regions and exits (document 01, "The run"), and `determine_runs_forever`.
+// The run over a lent table of regions and exits (document 01, "The run"), and `determine_runs_forever`.
 ghost use mathlib.Core.Path.{_≡_};
 ghost use mathlib.Core.List.{List};
 ghost use Prim.Native.Nat.{ℕ, _+_, _^_, _<_, _≤_};
@@ -32,7 +32,7 @@ const MOST_REGIONS: usize = 65536;
 
 const LARGEST_EXIT: u32 = 9437184;
 
-// Where a run stands, beside the slices slices.
+// Where a run stands, beside the lent slices.
 pub struct State {
     pub region: u32,
     pub steps: u64,

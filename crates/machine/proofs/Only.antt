@@ -2,7 +2,7 @@
 --     exec                     execs-only
 --     int_out, char_out        puts-only
 --     numbered, at_pointers    `equation-only` of base's proofs/Only.antt
--- A call leaves the length of a slices slice as it is. Assumes nothing.
+-- A call leaves the length of a lent slice as it is. Assumes nothing.
 use mathlib.Core.Path.{_≡_, _∙_, sym, ap, ap₂, refl}
 use mathlib.Core.List.{List, [], _∷_, _++_}
 use Prim.Native.Nat.{ℕ}

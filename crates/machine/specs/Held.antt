@@ -1,4 +1,4 @@
--- What the code holds of a store: numbers in a `Core`, the stack and the outputs in three slices slices. Assumes nothing.
+-- What the code holds of a store: numbers in a `Core`, the stack and the outputs in three lent slices. Assumes nothing.
 use mathlib.Core.Path.{_≡_}
 use mathlib.Core.Bool.{true}
 use mathlib.Core.List.{List}
@@ -19,7 +19,7 @@ use Rattle.machine.specs.declared.output.Wrote.the-variants as Write
 use Rattle.machine.specs.Output.{outsOf, Holds}
 use Rattle.machine.specs.Machine.{Store, Effect, Out, keeps, stops, fitting}
 
--- the three slices slices
+-- the three lent slices
 pub record Slices : Type 0 where
   pub stack : List ℤ
   pub kinds : List ℕ

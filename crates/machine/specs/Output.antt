@@ -1,4 +1,4 @@
--- Outputs in two slices slices (document 01, "The run"): "Outputs are a kind (1 char, 2 int) and an i64; room is the shorter
+-- Outputs in two lent slices (document 01, "The run"): "Outputs are a kind (1 char, 2 int) and an i64; room is the shorter
 -- of the two slices", and the cells past the output count, "in each slice to its end", hold 0. Assumes nothing.
 use mathlib.Core.Path.{_≡_}
 use mathlib.Core.Bool.{cond}

@@ -1,4 +1,4 @@
-// One instruction over the slices stack and outputs.
+// One instruction over the lent stack and outputs.
 pub mod output;
 
 use crate::output::Wrote;
@@ -40,7 +40,7 @@ pub enum Stop {
     BadInput,
 }
 
-// What an instruction works on, beside the slices slices; awaiting: an input instruction was met in abstract mode.
+// What an instruction works on, beside the lent slices; awaiting: an input instruction was met in abstract mode.
 pub struct Core {
     pub pointers: PointerState,
     pub depth: usize,

@@ -244,7 +244,7 @@ module _ {p : Picture} {map rows exits : List ℕ} {n : ℕ} (S : Sound p) (B : 
   entry-node : (getD (p .colours) 0 0 ≡ white → ⊥) → Node p map 0
   entry-node W = record {
     found = entry;
-    coloured = λ w. W (first-colour ∙ joined-colour (B .regions .apart 0 (w .codel) (first-in S) (w .inside) (first-zero ∙ sym (w .own))) ∙ w .colourUnder);
+    coloured = λ w. W (first-colour ∙ joined-colour (B .regions .apart 0 (w .codel) (first-in S) (w .inside) (first-zero ∙ sym (w .own))) ∙ w .colour);
   }
     where
       first-zero : getD map 0 0 ≡ 0

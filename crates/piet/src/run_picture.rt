@@ -1,4 +1,4 @@
-// From pixels to a run's result, over slices room: classifying, building and running, one after the other.
+// From pixels to a run's result, over lent room: classifying, building and running, one after the other.
 ghost use mathlib.Core.Path.{_≡_};
 ghost use mathlib.Core.Bool.{Bool, false};
 ghost use mathlib.Core.List.{List, [], _∷_};
@@ -46,7 +46,7 @@ fn first_colour(pixels: &[u8], setting: u8) -> u8
 }
 
 // Building's tests in document 01's order, where classifying refuses nothing: the pixels are then as many as they should
-// be and their colours at most 19. The slices slices are given by their lengths.
+// be and their colours at most 19. The lent slices are given by their lengths.
 fn check_table(
     pixels: &[u8],
     height: usize,
@@ -189,7 +189,7 @@ fn run_colours(
     }
 }
 
-// The run of a picture of pixels: its colours, its table and the run's stack and outputs stand in the slices slices. Where
+// The run of a picture of pixels: its colours, its table and the run's stack and outputs stand in the lent slices. Where
 // the call is refused, no slice is changed.
 pub fn run_picture(
     pixels: &[u8],
