@@ -12,7 +12,7 @@ use Rattle.base.proofs.Refusals as refusals
 use Rattle.colour.specs.declared.label.Labelled.the-variants.{Done, Label}
 use Rattle.colour.specs.Label.{labelOf, padded, answer, Outcome}
 use Rattle.colour.proofs.LabelLaws.{label-length}
-use Rattle.report.specs.Wrote.{Fits}
+use Rattle.report.specs.Fits.{Fits}
 use Rattle.answer.specs.Printing.{Starts, Legal}
 
 module _ (colour r c : ℕ) (before : List ℕ) (h : Legal colour r c) (room : 22 ≤ length before) where

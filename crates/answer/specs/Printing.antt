@@ -11,7 +11,7 @@ use Rattle.machine.specs.Output.{outsOf}
 use Rattle.machine.specs.Machine.{statusOf}
 use Rattle.interpreter.specs.declared.Ended.{Ended}
 use Rattle.report.specs.Text.{resultText}
-use Rattle.report.specs.Wrote.{Fits}
+use Rattle.report.specs.Fits.{Fits}
 
 -- a text stands at the start of a list
 pub record Starts (d : List ℕ) (n : ℕ) (text : List ℕ) : Type 0 where

@@ -1,12 +1,12 @@
 -- Laws of a list with a word written over it. Assumes nothing.
-use mathlib.Core.Path.{_≡_, _∙_, sym, ap, refl}
+use mathlib.Core.Path.{_≡_, _∙_, sym, ap}
 use mathlib.Core.List.{List, [], _∷_, _++_, append-assoc, append-nil}
-use Prim.Native.Nat.{ℕ, zero, suc, _+_, _-_, _<_, _≤_}
+use Prim.Native.Nat.{ℕ, suc, _+_, _-_, _<_, _≤_}
 use native.Mathlib.Nat.{zero-add, add-assoc, sub-self, add-zero}
 use native.Mathlib.Numerals.{add-one}
 use native.Mathlib.Omega.{arith}
-use lib.ListN.{length, getD, take, drop, set, length-append, length-take, length-drop, replicate, length-replicate, replicate-append-replicate, take-append-drop}
-use lib.Seq.{take-at, drop-append-add, drop-drop, set-split, append-snoc, length-take-le, paste, take-length}
+use lib.ListN.{length, take, drop, set, length-append, length-take, length-drop, replicate, length-replicate, replicate-append-replicate, take-append-drop}
+use lib.Seq.{take-at, drop-append-add, drop-drop, set-split, append-snoc, paste, take-length}
 use Rattle.base.specs.Lent.{over, lent, filled, Put}
 
 module _ {A : Type 0} where

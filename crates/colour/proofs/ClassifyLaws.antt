@@ -1,18 +1,15 @@
 -- Laws of pixels as triples, of the first unknown one and of the list that is written. Assumes nothing.
-use mathlib.Core.Path.{_≡_, _∙_, sym, ap, refl}
-use mathlib.Core.List.{List, [], _∷_, _++_, map}
+use mathlib.Core.Path.{_≡_, _∙_, ap, refl}
+use mathlib.Core.List.{List, [], _∷_}
 use Prim.Native.Nat.{ℕ, zero, suc, _+_, _*_, _<_, _≤_}
-use native.Mathlib.Nat.{mul-le-mul}
 use native.Mathlib.Numerals.{add-one}
 use native.Mathlib.Omega.{arith}
-use lib.ListN.{length, getD, take, drop, set, drop-of-length-le, length-map}
+use lib.ListN.{length, getD, drop, drop-of-length-le, length-map}
 use lib.Seq.{drop-cons}
-use lib.Dec.{eqb, ltb}
-use borrow.Author.Tests.{eqb-false, eqb-true, ltb-false, not-false}
-use mathlib.Core.Bool.{false}
+use borrow.Author.Tests.{eqb-true, ltb-false, not-false}
 use Rattle.colour.specs.declared.palette.Found.{Found}
 use Rattle.colour.specs.declared.palette.Found.the-variants.{Known, Unknown}
-use Rattle.colour.specs.Palette.{Rgb, rgb, colourOf, pixelsOf}
+use Rattle.colour.specs.Palette.{rgb, colourOf, pixelsOf}
 use Rattle.base.specs.Limits.{wrongSide}
 use Rattle.colour.specs.Classify.{numbered, answer, refusals, found, knownFirst}
 use Rattle.base.proofs.Tests.{neither}

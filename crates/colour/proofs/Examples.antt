@@ -1,8 +1,7 @@
 -- What the definitions say of the whole palette, of an unknown pixel, and of labels. Assumes nothing.
 use mathlib.Core.Path.{_≡_, refl}
-use mathlib.Core.List.{List, [], _∷_, _++_, map}
+use mathlib.Core.List.{[], _∷_, map}
 use lib.ListN.{getD}
-use Rattle.colour.specs.declared.palette.Found.{Found}
 use Rattle.colour.specs.declared.palette.Found.the-variants.{Known, Unknown}
 use Rattle.colour.specs.Palette.{rgb, palette, colourOf, numberIn, pixelsOf}
 use Rattle.colour.specs.Classify.{found, colourUnder, coloursUnder}

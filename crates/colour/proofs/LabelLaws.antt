@@ -1,11 +1,9 @@
 -- Laws of decimal digits and of a label's length. Assumes nothing.
-use mathlib.Core.Path.{_≡_, _∙_, sym, ap, refl}
+use mathlib.Core.Path.{_≡_, _∙_, refl}
 use mathlib.Core.List.{List, [], _∷_, _++_}
-use Prim.Native.Nat.{ℕ, zero, suc, _+_, _-_, _*_, _/_, _%_, _^_, _<_, _≤_}
+use Prim.Native.Nat.{ℕ, zero, suc, _+_, _-_, _/_, _%_, _≤_}
 use native.Mathlib.Omega.{arith}
-use borrow.Author.Tests.{lt-ltb, le-ltb, ltb-false}
-use native.Mathlib.Nat.{pow-suc, div-lt-iff-lt-mul}
-use native.Mathlib.Decide.{decLt}
+use borrow.Author.Tests.{ltb-false}
 use lib.Dec.{eqb, ltb}
 use mathlib.Core.Bool.{Bool, true, false, cond, _||_}
 use lib.ListN.{length, length-append, replicate, length-replicate, List·getD-eq-default}

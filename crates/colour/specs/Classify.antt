@@ -1,7 +1,7 @@
 -- Classifying (document 01, "Refusal numbers" and "Colours"): refusals 1, 3, 2, 4, 5 in this order, and what is written.
 -- Assumes nothing.
 use mathlib.Core.Path.{_≡_}
-use mathlib.Core.Bool.{Bool, true, false, not, cond, _&&_, _||_}
+use mathlib.Core.Bool.{Bool, not, cond, _&&_, _||_}
 use mathlib.Core.List.{List, [], _∷_, map}
 use Prim.Native.Nat.{ℕ, suc, _*_, _/_, _%_}
 use lib.Dec.{eqb, ltb}
@@ -13,7 +13,7 @@ use Rattle.colour.specs.declared.classify.Classified.the-variants.{Done,
 use Rattle.base.specs.Numbers.{Numbers, numbers, Row, row, first, unlessRefused}
 use Rattle.base.specs.Lent.{lent}
 use Rattle.base.specs.Limits.{wrongSide}
-use Rattle.colour.specs.Palette.{Rgb, colourOf, pixelsOf, black, white}
+use Rattle.colour.specs.Palette.{colourOf, pixelsOf, black, white}
 
 -- document 01's number, and the row and the column, zeros where there is none
 abbrev pub numbered : Classified → Numbers

@@ -1,7 +1,7 @@
 -- The twenty colours and their three bytes (`convert.rs`, the page's table), in document 01's numbers. Assumes nothing.
-use mathlib.Core.Bool.{Bool, true, false, _&&_, cond}
-use mathlib.Core.List.{List, [], _∷_, map}
-use Prim.Native.Nat.{ℕ, zero, suc}
+use mathlib.Core.Bool.{Bool, _&&_, cond}
+use mathlib.Core.List.{List, [], _∷_}
+use Prim.Native.Nat.{ℕ, suc}
 use lib.Dec.{eqb}
 use Rattle.colour.specs.declared.palette.Found.{Found}
 use Rattle.colour.specs.declared.palette.Found.the-variants.{Known, Unknown}

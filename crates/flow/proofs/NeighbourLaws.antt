@@ -5,8 +5,7 @@ use Prim.Native.Nat.{ℕ, zero, suc, _+_, _-_, _<_}
 use native.Mathlib.Omega.{arith}
 use borrow.Author.Tests.{ltb-true}
 use lib.Dec.{ltb}
-use Rattle.flow.specs.declared.Beyond.{Beyond}
-use Rattle.flow.specs.declared.Beyond.the-variants.{Codel, Outside}
+use Rattle.flow.specs.declared.Beyond.the-variants.{Codel}
 use Rattle.flow.specs.Neighbour.{orOutside, aheadOf}
 
 -- up is what is none of the other three

@@ -1,6 +1,5 @@
 -- A pointer state and what turns it (document 01, "Regions and exits"; the page, "Start and motion").
 -- dp right, down, left, up is 0 to 3; cc left, right is 0, 1. Assumes nothing.
-use mathlib.Core.Path.{_≡_}
 use mathlib.Core.Bool.{cond}
 use Prim.Native.Nat.{ℕ, zero, suc, _+_, _-_, _*_, _/_, _%_, _<_}
 use lib.Dec.{eqb}

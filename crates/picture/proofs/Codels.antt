@@ -1,13 +1,12 @@
 -- The codels of a picture, by row and column and by index. Assumes nothing.
-use mathlib.Core.Path.{_≡_, refl, sym, ap, _∙_}
+use mathlib.Core.Path.{_≡_, refl}
 use Prim.Native.Nat.{ℕ, _+_, _*_, _/_, _%_, _<_, _≤_}
 use native.Mathlib.Nat.{div-lt-iff-lt-mul, mod-lt, zero-mul}
 use native.Mathlib.Omega.{arith}
 use lib.Arith.{digits-div, digits-mod, digits-lt}
-use lib.ListN.{length}
 use mathlib.Core.List.{List}
 use Rattle.picture.specs.declared.shape.Shape.{Shape}
-use Rattle.picture.specs.Picture.{Picture, rowsOf, colsOf, codels, Inside, indexOf, codelColour, Sound, shapeOf, pictureOf, Frames}
+use Rattle.picture.specs.Picture.{Picture, rowsOf, colsOf, codels, Inside, indexOf, Sound, shapeOf, pictureOf, Frames}
 use Rattle.picture.proofs.Sizes.{side-pos, corner-in}
 
 -- the index of a codel is in the grid, and gives its row and column back

@@ -1,12 +1,10 @@
 -- Reading a codel of the grid finds its colour. Assumes nothing.
-use mathlib.Core.Path.{_≡_, ap}
+use mathlib.Core.Path.{_≡_}
 use Prim.Native.Nat.{ℕ, _+_, _*_, _<_}
-use native.Mathlib.Omega.{arith}
 use lib.Arith.{digits-lt}
 use lib.ListN.{length}
 use borrow.Author.Tests.{lt-ltb}
-use Rattle.picture.specs.declared.Read.{Read}
-use Rattle.picture.specs.declared.Read.the-variants.{Colour, Outside}
+use Rattle.picture.specs.declared.Read.the-variants.{Colour}
 use Rattle.picture.specs.Source.{getAt}
 use Rattle.picture.specs.Picture.{Picture, Inside, colourAt, Sound}
 use Rattle.picture.proofs.Codels.{row-in, col-in}

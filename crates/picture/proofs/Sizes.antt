@@ -1,6 +1,5 @@
 -- How many codels cover a side, and that a codel's corner lies in the picture. Assumes nothing.
-use mathlib.Core.Path.{_≡_}
-use Prim.Native.Nat.{ℕ, suc, _+_, _-_, _*_, _/_, _<_, _≤_}
+use Prim.Native.Nat.{ℕ, _+_, _-_, _*_, _<_}
 use native.Mathlib.Nat.{div-mul-le-self, le-div-iff-mul-le, suc-mul, mul-le-mul-right}
 use native.Mathlib.Omega.{arith}
 use Rattle.picture.specs.Picture.{ceil}

@@ -1,8 +1,5 @@
 // Replays stored answers of the run program: `stdin` holds jobs, each a length in two bytes, the lower first, and so many
 // bytes; `stdout` has for each what the run program prints, and a line `--`.
-ghost use mathlib.Core.Path.{_≡_};
-ghost use Prim.Native.Nat.{_+_, _≤_};
-ghost use lib.ListN.{length};
 use libc::STDIN_FILENO;
 use libc::STDOUT_FILENO;
 
@@ -13,23 +10,11 @@ fn print_job(job: &[u8]) {
     io::write_all(STDOUT_FILENO, b"--\n");
 }
 
-// Where the job that begins at an index ends; a cut one ends with the records.
-fn job_end(records: &[u8], at: usize) -> usize
-    requires { ⌜ at + 2 ≤ length (now records) ⌝ }
-    ensures above { λ r. ⌜ at + 2 ≤ r ⌝ }
-    ensures within { λ r. ⌜ r ≤ length (now (records .entry)) ⌝ }
-{
-    let size = stored::wide(records[at]) + 256 * stored::wide(records[at + 1]);
-    if records.len() - at - 2 < size {
-        return records.len();
-    }
-    at + 2 + size
-}
-
 fn print_jobs(records: &[u8]) {
     let mut at = 0;
     while 2 <= records.len() - at {
-        let end = job_end(records, at);
+        let size = stored::wide(records[at]) + 256 * stored::wide(records[at + 1]);
+        let end = stored::record_end(records, at + 2, size);
         print_job(&records[at + 2..end]);
         at = end;
     }

@@ -1,18 +1,9 @@
 // Replays stored answers of Rust's text functions: `stdin` holds inputs, each a byte for its length and so many bytes;
 // `stdout` has a line for each, `c A n i B m`: what CharIn and IntIn take of it, the value pushed, `s` where the step is
 // skipped, `b` where the line is not UTF-8, each with the bytes consumed.
-ghost use mathlib.Core.Path.{_≡_};
-ghost use Prim.Native.Nat.{_<_, _≤_};
-ghost use lib.ListN.{length};
 use libc::STDIN_FILENO;
 use libc::STDOUT_FILENO;
 use text::input::Taken;
-
-fn wide(b: u8) -> usize
-    ensures { λ r. ⌜ r ≡ b ⌝ }
-{
-    b as usize
-}
 
 fn print_int(v: i64) {
     if v < 0 {
@@ -46,23 +37,10 @@ fn print_input(input: &[u8]) {
     io::write_all(STDOUT_FILENO, b"\n");
 }
 
-// Where the record that begins at an index ends; a cut one ends with the records.
-fn record_end(records: &[u8], at: usize) -> usize
-    requires { ⌜ at < length (now records) ⌝ }
-    ensures above { λ r. ⌜ at < r ⌝ }
-    ensures within { λ r. ⌜ r ≤ length (now (records .entry)) ⌝ }
-{
-    let size = wide(records[at]);
-    if records.len() - at - 1 < size {
-        return records.len();
-    }
-    at + 1 + size
-}
-
 fn print_inputs(records: &[u8]) {
     let mut at = 0;
     while at < records.len() {
-        let end = record_end(records, at);
+        let end = stored::record_end(records, at + 1, stored::wide(records[at]));
         print_input(&records[at + 1..end]);
         at = end;
     }

@@ -22,7 +22,8 @@ ghost use Rattle.report.specs.Text.{
   resultText,
   refusalText,
 };
-ghost use Rattle.report.specs.Wrote.{Wrote, Fits};
+ghost use Rattle.report.specs.Fits.{Fits};
+ghost use Rattle.report.specs.Wrote.{Wrote};
 use base::put::put_number;
 use base::put::put_word;
 

@@ -11,22 +11,30 @@ pub fn wide(b: u8) -> usize
     b as usize
 }
 
-// Where the picture that begins at an index ends; a cut one ends with the records.
+// Where a record ends that has so many bytes from `body` on; a cut one ends with the records.
+pub fn record_end(records: &[u8], body: usize, size: usize) -> usize
+    requires { ⌜ body ≤ length (now records) ⌝ }
+    ensures above { λ r. ⌜ body ≤ r ⌝ }
+    ensures within { λ r. ⌜ r ≤ length (now (records .entry)) ⌝ }
+{
+    if records.len() - body < size {
+        return records.len();
+    }
+    body + size
+}
+
+// Where the picture that begins at an index ends.
 pub fn picture_end(records: &[u8], at: usize) -> usize
     requires { ⌜ at < length (now records) ⌝ }
     ensures above { λ r. ⌜ at < r ⌝ }
     ensures within { λ r. ⌜ r ≤ length (now (records .entry)) ⌝ }
 {
-    let left = records.len() - at;
-    if left < 3 {
+    if records.len() - at < 3 {
         return records.len();
     }
     let height = wide(records[at]);
     let width = wide(records[at + 1]);
-    if left - 3 < height * width {
-        return records.len();
-    }
-    at + 3 + height * width
+    record_end(records, at + 3, height * width)
 }
 
 pub fn print_number(n: u64) {

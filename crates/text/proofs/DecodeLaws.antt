@@ -5,7 +5,7 @@
 --     read1 .. read4, no-char-at       what `Reads` asks, from the numbers
 --     carries, no-tail         what `TailAt` says, by the answer
 --     Gathers                  the bits of the first byte and of some continuation bytes are a number
---     tail-needed, same-number, reads-long, no-scalar      a character of more bytes than one, by what `Leads` says of its first
+--     tail-needed, same-number, reads-long, no-scalar      a character of more bytes than one, by what `FirstByte` says of its first
 -- Assumes nothing.
 use Prim.Native.Nat.{ℕ, zero, suc, _+_, _-_, _*_, _/_, _<_, _≤_}
 use mathlib.Core.Path.{_≡_, refl, sym, ap, _∙_, subst}
@@ -17,7 +17,8 @@ use native.Mathlib.Numerals.{add-one}
 use native.Mathlib.Omega.{arith}
 use lib.ListN.{length, getD, drop, length-drop}
 use lib.Seq.{getD-drop}
-use Rattle.text.specs.Utf8.{scalar, encode, bytes1, bytes2, bytes3, bytes4, tailByte, IsTail, IsChar, Reads, char, bad, Carries, TailAt, tail, other, Leads, leads2, leads3, leads4}
+use Rattle.text.specs.Utf8.{scalar, encode, bytes1, bytes2, bytes3, bytes4, tailByte, IsTail, IsChar, Reads, char, bad}
+use Rattle.text.specs.LongChar.{Carries, TailAt, tail, other, FirstByte, of-two, of-three, of-four}
 use Rattle.text.specs.declared.utf8.Decoded.the-variants.{Char, Bad}
 use Rattle.text.specs.declared.utf8.Tail.{Tail}
 use Rattle.text.specs.declared.utf8.Tail.the-variants.{Bits, Other}
@@ -228,56 +229,56 @@ module _ (s : List ℕ) (at high : ℕ) where
   all-of cp m n e g = subst (λ (k : ℕ). Gathers s at high k cp) e g
 
 module _ (s : List ℕ) (at high : ℕ) {more least : ℕ} where
-  pub few-more : Leads (getD s at 0) high more least → more ≤ 3
-  few-more (leads2 b h m l) = omega arith
-  few-more (leads3 b h m l) = omega arith
-  few-more (leads4 b h m l) = omega arith
+  pub few-more : FirstByte (getD s at 0) high more least → more ≤ 3
+  few-more (of-two b h m l) = omega arith
+  few-more (of-three b h m l) = omega arith
+  few-more (of-four b h m l) = omega arith
 
-  pub number-small : Leads (getD s at 0) high more least → (i cp : ℕ) → i < more → Gathers s at high i cp → cp < 0x20000
-  number-small (leads2 b h m l) i cp k g = bits-small s at high i cp (omega arith) (omega arith) g
-  number-small (leads3 b h m l) i cp k g = bits-small s at high i cp (omega arith) (omega arith) g
-  number-small (leads4 b h m l) i cp k g = bits-small s at high i cp (omega arith) (omega arith) g
+  pub number-small : FirstByte (getD s at 0) high more least → (i cp : ℕ) → i < more → Gathers s at high i cp → cp < 0x20000
+  number-small (of-two b h m l) i cp k g = bits-small s at high i cp (omega arith) (omega arith) g
+  number-small (of-three b h m l) i cp k g = bits-small s at high i cp (omega arith) (omega arith) g
+  number-small (of-four b h m l) i cp k g = bits-small s at high i cp (omega arith) (omega arith) g
 
   -- a character that stands there has all the continuation bytes
-  needs-tail : Leads (getD s at 0) high more least → (c : ℕ) → Stands s at c → (k : ℕ) → k < more
+  needs-tail : FirstByte (getD s at 0) high more least → (c : ℕ) → Stands s at c → (k : ℕ) → k < more
       → (at + suc k < length s) × IsTail (getD s (at + suc k) 0)
-  needs-tail (leads2 b h m l) c st zero lt = let t = is2 s at c st (omega arith) (omega arith) in (omega arith, (omega arith, omega arith))
-  needs-tail (leads2 b h m l) c st (suc k) lt = absurd (omega arith)
-  needs-tail (leads3 b h m l) c st zero lt = let t = is3 s at c st (omega arith) (omega arith) in (omega arith, (omega arith, omega arith))
-  needs-tail (leads3 b h m l) c st (suc zero) lt = let t = is3 s at c st (omega arith) (omega arith) in (omega arith, (omega arith, omega arith))
-  needs-tail (leads3 b h m l) c st (suc (suc k)) lt = absurd (omega arith)
-  needs-tail (leads4 b h m l) c st zero lt = let t = is4 s at c st (omega arith) in (omega arith, (omega arith, omega arith))
-  needs-tail (leads4 b h m l) c st (suc zero) lt = let t = is4 s at c st (omega arith) in (omega arith, (omega arith, omega arith))
-  needs-tail (leads4 b h m l) c st (suc (suc zero)) lt = let t = is4 s at c st (omega arith) in (omega arith, (omega arith, omega arith))
-  needs-tail (leads4 b h m l) c st (suc (suc (suc k))) lt = absurd (omega arith)
+  needs-tail (of-two b h m l) c st zero lt = let t = is2 s at c st (omega arith) (omega arith) in (omega arith, (omega arith, omega arith))
+  needs-tail (of-two b h m l) c st (suc k) lt = absurd (omega arith)
+  needs-tail (of-three b h m l) c st zero lt = let t = is3 s at c st (omega arith) (omega arith) in (omega arith, (omega arith, omega arith))
+  needs-tail (of-three b h m l) c st (suc zero) lt = let t = is3 s at c st (omega arith) (omega arith) in (omega arith, (omega arith, omega arith))
+  needs-tail (of-three b h m l) c st (suc (suc k)) lt = absurd (omega arith)
+  needs-tail (of-four b h m l) c st zero lt = let t = is4 s at c st (omega arith) in (omega arith, (omega arith, omega arith))
+  needs-tail (of-four b h m l) c st (suc zero) lt = let t = is4 s at c st (omega arith) in (omega arith, (omega arith, omega arith))
+  needs-tail (of-four b h m l) c st (suc (suc zero)) lt = let t = is4 s at c st (omega arith) in (omega arith, (omega arith, omega arith))
+  needs-tail (of-four b h m l) c st (suc (suc (suc k))) lt = absurd (omega arith)
 
-  pub tail-needed : Leads (getD s at 0) high more least → (c : ℕ) → Stands s at c → (k : ℕ) → k < more
+  pub tail-needed : FirstByte (getD s at 0) high more least → (c : ℕ) → Stands s at c → (k : ℕ) → k < more
       → (at + (k + 1) < length s) × IsTail (getD s (at + (k + 1)) 0)
   tail-needed L c st k lt = rw (add-one k) (needs-tail L c st k lt)
 
   module _ (cp : ℕ) where
     -- it has that number, which needs so many bytes
-    pub same-number : Leads (getD s at 0) high more least → Gathers s at high more cp → (c : ℕ) → Stands s at c → (c ≡ cp) × (least ≤ c)
-    same-number (leads2 b h m l) g c st =
+    pub same-number : FirstByte (getD s at 0) high more least → Gathers s at high more cp → (c : ℕ) → Stands s at c → (c ≡ cp) × (least ≤ c)
+    same-number (of-two b h m l) g c st =
         let t = is2 s at c st (omega arith) (omega arith) in
         let f = all-of s at high cp more 1 m g in
         (omega arith, omega arith)
-    same-number (leads3 b h m l) g c st =
+    same-number (of-three b h m l) g c st =
         let t = is3 s at c st (omega arith) (omega arith) in
         let f = all-of s at high cp more 2 m g in
         (omega (arith, div-div-eq-div-mul c 64 64), omega arith)
-    same-number (leads4 b h m l) g c st =
+    same-number (of-four b h m l) g c st =
         let t = is4 s at c st (omega arith) in
         let f = all-of s at high cp more 3 m g in
         (omega (arith, div-div-eq-div-mul c 64 64, div-div-eq-div-mul c 4096 64), omega arith)
 
     -- a scalar that needs so many bytes stands there
-    pub reads-long : Leads (getD s at 0) high more least → Gathers s at high more cp → least ≤ cp → scalar cp ≡ true → Reads s at (Char cp (at + more + 1))
-    reads-long (leads2 b h m l) g k e =
+    pub reads-long : FirstByte (getD s at 0) high more least → Gathers s at high more cp → least ≤ cp → scalar cp ≡ true → Reads s at (Char cp (at + more + 1))
+    reads-long (of-two b h m l) g k e =
         let f = all-of s at high cp more 1 m g in
         let n : at + 2 ≡ at + more + 1 = omega arith in
         rw n at (read2 s at cp (record { long = omega arith; lo = omega arith; hi = omega arith; b₀ = omega arith; b₁ = omega arith }))
-    reads-long (leads3 b h m l) g k e =
+    reads-long (of-three b h m l) g k e =
         let f = all-of s at high cp more 2 m g in
         let n : at + 3 ≡ at + more + 1 = omega arith in
         rw n at
@@ -291,7 +292,7 @@ module _ (s : List ℕ) (at high : ℕ) {more least : ℕ} where
           b₁ = omega arith;
           b₂ = omega arith;
         }))
-    reads-long (leads4 b h m l) g k e =
+    reads-long (of-four b h m l) g k e =
         let f = all-of s at high cp more 3 m g in
         let u = scalar-bounds cp e .0 in
         let n : at + 4 ≡ at + more + 1 = omega arith in
@@ -307,6 +308,6 @@ module _ (s : List ℕ) (at high : ℕ) {more least : ℕ} where
           b₃ = omega arith;
         }))
 
-    pub no-scalar : at < length s → Leads (getD s at 0) high more least → Gathers s at high more cp → scalar cp ≡ false → Reads s at Bad
+    pub no-scalar : at < length s → FirstByte (getD s at 0) high more least → Gathers s at high more cp → scalar cp ≡ false → Reads s at Bad
     no-scalar h L g e =
         bad h (λ c n k. true≢false (sym (k .scalar) ∙ ap scalar (same-number L g c (stands s at c n k) .0) ∙ e)) refl

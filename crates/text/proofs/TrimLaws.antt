@@ -18,7 +18,8 @@ use lib.Seq.{length-take-le, take-take, take-at, drop-at, getD-take, getD-append
 use Rattle.base.proofs.Tests.{by-size}
 use Rattle.text.specs.Utf8.{Scalar, Scalars, encode, encodes, bytes2, bytes3, bytes4, IsTail, Utf8, Valid, IsChar}
 use Rattle.text.specs.White.{whiteSpace, trimStart, trimEnd}
-use Rattle.text.specs.Trim.{LastStart, Front, Back, Trims}
+use Rattle.text.specs.Ends.{LastStart, Front, Back}
+use Rattle.text.specs.Trim.{Trims}
 use Rattle.text.proofs.Utf8Laws.{scalars-none, scalars-more, scalars-both, prefix-char, utf8-unique, utf8-none, head-is, Form, form, form1, form2, form3, form4, encode-some}
 use Rattle.text.proofs.ValidLaws.{char-at, bad-never}
 use Rattle.text.proofs.Parts.{part-from}

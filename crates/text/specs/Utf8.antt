@@ -5,12 +5,10 @@ use mathlib.Core.Path.{_≡_}
 use mathlib.Core.Bool.{Bool, true, _&&_, not, cond}
 use mathlib.Core.List.{List, [], _∷_, _++_}
 use lib.Dec.{ltb}
-use lib.ListN.{length, getD, drop}
+use lib.ListN.{length, drop}
 use Rattle.text.specs.Range.{within}
 use Rattle.text.specs.declared.utf8.Decoded.{Decoded}
 use Rattle.text.specs.declared.utf8.Decoded.the-variants.{Char, Bad, End}
-use Rattle.text.specs.declared.utf8.Tail.{Tail}
-use Rattle.text.specs.declared.utf8.Tail.the-variants.{Bits, Other}
 
 -- "a Unicode scalar": below 0x110000, and no surrogate, U+D800 to U+DFFF
 unfoldable pub scalar : ℕ → Bool
@@ -78,19 +76,3 @@ pub data Reads (s : List ℕ) (at : ℕ) (r : Decoded) : Type 0 where
   char : (c n : ℕ) → IsChar s at c n → r ≡ Char c n → Reads s at r
   bad : at < length s → ((c n : ℕ) → IsChar s at c n → ⊥) → r ≡ Bad → Reads s at r
   past : length s ≤ at → r ≡ End → Reads s at r
-
--- a continuation byte stands at a place, and has the bits x
-pub record Carries (s : List ℕ) (i x : ℕ) : Type 0 where
-  pub inside : i < length s
-  pub small : x < 64
-  pub byte : getD s i 0 ≡ 0x80 + x
-
-pub data TailAt (s : List ℕ) (i : ℕ) (r : Tail) : Type 0 where
-  tail : (x : ℕ) → Carries s i x → r ≡ Bits x → TailAt s i r
-  other : (i < length s → IsTail (getD s i 0) → ⊥) → r ≡ Other → TailAt s i r
-
--- a first byte b with the bits `high`, after which so many continuation bytes follow; numbers below `least` need fewer
-pub data Leads (b high more least : ℕ) : Type 0 where
-  leads2 : b ≡ 0xC0 + high → high < 32 → more ≡ 1 → least ≡ 0x80 → Leads b high more least
-  leads3 : b ≡ 0xE0 + high → high < 16 → more ≡ 2 → least ≡ 0x800 → Leads b high more least
-  leads4 : b ≡ 0xF0 + high → high < 16 → more ≡ 3 → least ≡ 0x10000 → Leads b high more least

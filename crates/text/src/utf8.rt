@@ -3,7 +3,8 @@ ghost use mathlib.Core.Path.{_≡_};
 ghost use Prim.Native.Nat.{_<_};
 ghost use lib.ListN.{length, getD};
 ghost use Rattle.base.specs.Decides.{Decides};
-ghost use Rattle.text.specs.Utf8.{scalar, Leads, Reads, TailAt, Valid};
+ghost use Rattle.text.specs.LongChar.{FirstByte, TailAt};
+ghost use Rattle.text.specs.Utf8.{scalar, Reads, Valid};
 
 // What stands at a place of the bytes.
 pub enum Decoded {
@@ -49,7 +50,7 @@ pub(crate) fn tail_at(s: &[u8], i: usize) -> Tail
 // A character whose first byte has the bits `high` and is followed by `more` continuation bytes. One that fits fewer bytes,
 // below `least`, is overlong.
 fn decode_long(s: &[u8], at: usize, high: u32, more: usize, least: u32) -> Decoded
-    requires { ⌜ (at < length (now s)) × Leads (getD (now s) at 0) high more least ⌝ }
+    requires { ⌜ (at < length (now s)) × FirstByte (getD (now s) at 0) high more least ⌝ }
     ensures { λ r. ⌜ Reads (now (s .entry)) at r ⌝ }
 {
     let mut cp = high;

@@ -7,7 +7,8 @@ use crate::utf8::tail_at;
 ghost use mathlib.Core.Path.{_≡_};
 ghost use Prim.Native.Nat.{_<_, _≤_};
 ghost use lib.ListN.{length};
-ghost use Rattle.text.specs.Trim.{Front, Back, LastStart, Trims};
+ghost use Rattle.text.specs.Ends.{Front, Back, LastStart};
+ghost use Rattle.text.specs.Trim.{Trims};
 ghost use Rattle.text.specs.White.{whiteSpace};
 
 // "White space is U+0009 to U+000D, U+0020, U+0085, U+00A0, U+1680, U+2000 to U+200A, U+2028, U+2029, U+202F, U+205F, U+3000."

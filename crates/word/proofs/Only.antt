@@ -3,8 +3,7 @@
 -- (`equation-only` of base); those of `div` and `modulo` are equations of the answer's values. Assumes nothing.
 use mathlib.Core.Path.{_≡_, _∙_, sym, ap, refl}
 use mathlib.Core.List.{List, [], _∷_}
-use lib.IntN.{ℤ, pos}
-use lib.ListN.{getD}
+use lib.IntN.{ℤ}
 use Rattle.word.specs.Word.{values}
 use Rattle.word.specs.declared.Divided.{Divided}
 use Rattle.word.specs.declared.Divided.the-variants.{Value, Nothing}

@@ -2,16 +2,16 @@
 -- A signed local holds bits, so a need speaks of `toZ w64 (ofZ w64 x)`, which is x for every x that fits (`toZ-ofZ`).
 use mathlib.Core.Path.{_≡_, refl, sym, ap, _∙_}
 use mathlib.Core.Bool.{Bool, true, false, cond}
-use Prim.Native.Nat.{ℕ, zero, suc, _+_, _-_, _%_, _^_, _<_, _≤_}
+use Prim.Native.Nat.{ℕ, zero, suc, _-_, _^_, _<_}
 use native.Mathlib.Omega.{arith}
-use borrow.Author.Tests.{ltb-true, ltb-false}
+use borrow.Author.Tests.{ltb-true}
 use lib.Dec.{T, ltb}
 use lib.IntN.{ℤ, pos, negsuc, natAbs}
 use lib.Signed.{mag, ltZ, nonNeg}
 use mir.Syntax.{w64}
 use mir.Val.{SFits, Fits, ofZ, toZ, sel}
 use mir.Facts.{toZ-ofZ, toZ-pos}
-use Rattle.word.specs.Word.{residue, signed64}
+use Rattle.word.specs.Word.{signed64}
 
 -- x is below 0, as a test `x < 0` of the code says it
 abbrev pub Below : ℤ → Bool → Type 0

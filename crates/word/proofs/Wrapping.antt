@@ -1,12 +1,12 @@
 -- Laws of wrapping: residues modulo 2^64 of sums, differences and products, and that wrapping leaves a number that fits as it is.
 use mathlib.Core.Path.{_≡_, refl, sym, ap, _∙_}
-use mathlib.Core.Bool.{Bool, true, false, not, cond}
+use mathlib.Core.Bool.{Bool, true, false, cond}
 use Prim.Native.Nat.{ℕ, zero, suc, _+_, _-_, _*_, _/_, _%_, _^_, _<_, _≤_}
-use native.Mathlib.Nat.{mul-add, add-mul, mul-comm, mod-lt, mod-eq-of-lt, mod-self, suc-mod, div-le-self, div-lt-iff-lt-mul, mul-mod-left, zero-add}
+use native.Mathlib.Nat.{add-mul, mul-comm, mod-lt, mod-eq-of-lt, mod-self, suc-mod, div-le-self, div-lt-iff-lt-mul, mul-mod-left, zero-add}
 use native.Mathlib.Omega.{arith}
 use borrow.Author.Tests.{ltb-true, ltb-false}
 use lib.Dec.{ltb}
-use lib.IntN.{ℤ, pos, negsuc, negℤ, natAbs, subℕ, _+ℤ_, _-ℤ_, _*ℤ_, +ℤ-idl}
+use lib.IntN.{ℤ, pos, negsuc, negℤ, _+ℤ_, _-ℤ_, _*ℤ_, +ℤ-idl}
 use lib.Signed.{mag, quotZ, remZ}
 use mir.Syntax.{w64}
 use mir.Val.{SFits}

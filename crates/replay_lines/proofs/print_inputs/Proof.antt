@@ -1,5 +1,6 @@
-use mathlib.Core.Path.{_≡_}
-use Prim.Native.Nat.{_+_, _-_, _*_, _<_, _≤_}
+-- `replay_lines::print_inputs` stays inside the records and comes to their end.
+-- Assumes nothing.
+use Prim.Native.Nat.{_-_, _≤_}
 use borrow.Author.Needs.{needs}
 use lib.ListN.{length}
 use Rattle.replay_lines.proofs.print_inputs.Statement.{statement}
@@ -13,6 +14,15 @@ abbrev μ-loop : tie.MeasureT-loop
 
 loop-holds : tie.Need-loop-holds Inv-loop μ-loop
 loop-holds c = search needs
+
+add-record-end : tie.Need-add-record-end Inv-loop μ-loop
+add-record-end c = search needs
+
+shared-slice-read-wide : tie.Need-shared-slice-read-wide Inv-loop μ-loop
+shared-slice-read-wide c = search needs
+
+wide-requires : tie.Need-wide-requires Inv-loop μ-loop
+wide-requires c κs = search needs
 
 record-end-requires : tie.Need-record-end-requires Inv-loop μ-loop
 record-end-requires c κs = search needs
@@ -48,6 +58,9 @@ print-inputs-spec =
     Inv-loop
     μ-loop
     loop-holds
+    add-record-end
+    shared-slice-read-wide
+    wide-requires
     record-end-requires
     add-print-input
     sub-print-input

@@ -1,3 +1,4 @@
+-- `stored::picture_end` meets its contract: the sides are two bytes. Assumes nothing.
 use Prim.Native.Nat.{_≤_}
 use native.Mathlib.Omega.{arith}
 use borrow.Author.Needs.{needs}
@@ -5,8 +6,8 @@ use Rattle.base.proofs.Sides.{area}
 use Rattle.stored.proofs.picture_end.Statement.{statement}
 use Rattle.stored.proofs.picture_end.Tie as tie
 
-sub-left : tie.Need-sub-left
-sub-left c = search needs
+sub-if1 : tie.Need-sub-if1
+sub-if1 c = search needs
 
 returns : tie.Need-returns
 returns c = search needs
@@ -26,46 +27,34 @@ shared-slice-read-wide-2 c = search needs
 wide-requires-2 : tie.Need-wide-requires-2
 wide-requires-2 c κs = search needs
 
-mul-if2 : tie.Need-mul-if2
-mul-if2 c =
+add-record-end : tie.Need-add-record-end
+add-record-end c = search needs
+
+mul-record-end : tie.Need-mul-record-end
+mul-record-end c =
     let the-wide = c .before .before .wide in
     let h : the-wide .result ≤ 1024 = omega (arith, the-wide .ensures .1) in
     let w : c .wide2 .result ≤ 1024 = omega (arith, c .wide2 .ensures .1) in
     record { fits = omega (arith, area h w) }
 
+record-end-requires : tie.Need-record-end-requires
+record-end-requires c κs = search needs
+
 returns-2 : tie.Need-returns-2
 returns-2 c = search needs
-
-add-result : tie.Need-add-result
-add-result c = search needs
-
-mul-result : tie.Need-mul-result
-mul-result c =
-    let the-wide = c .before .before .before .wide in
-    let h : the-wide .result ≤ 1024 = omega (arith, the-wide .ensures .1) in
-    let w : c .before .wide2 .result ≤ 1024 = omega (arith, c .before .wide2 .ensures .1) in
-    record { fits = omega (arith, area h w) }
-
-add-result-2 : tie.Need-add-result-2
-add-result-2 c = search needs
-
-returns-3 : tie.Need-returns-3
-returns-3 c = search needs
 
 pub picture-end-spec : {M : Type 1} → statement M
 picture-end-spec =
     tie.close
     (tie.spec
-    sub-left
+    sub-if1
     returns
     shared-slice-read-wide
     wide-requires
     add-wide
     shared-slice-read-wide-2
     wide-requires-2
-    mul-if2
-    returns-2
-    add-result
-    mul-result
-    add-result-2
-    returns-3)
+    add-record-end
+    mul-record-end
+    record-end-requires
+    returns-2)

@@ -1,11 +1,11 @@
 -- `word::bits` meets its contract: by the sign of x, the machine's bits are the residue modulo 2^64. Assumes nothing.
 use mathlib.Core.Path.{_≡_}
-use Prim.Native.Nat.{suc, _-_, _%_, _^_, _≤_}
+use Prim.Native.Nat.{_-_, _^_, _≤_}
 use native.Mathlib.Omega.{arith}
-use lib.IntN.{ℤ, natAbs}
+use lib.IntN.{ℤ}
 use lib.Signed.{mag}
 use Rattle.word.specs.Word.{residue}
-use Rattle.word.proofs.Signed.{Neg, neg, NonNeg, nonneg, isNeg, isNonNeg, Flipped, Same, casts-neg, casts-pos, cast-neg, cast-pos}
+use Rattle.word.proofs.Signed.{Neg, neg, NonNeg, nonneg, isNeg, isNonNeg, casts-neg, casts-pos, cast-neg, cast-pos}
 use Rattle.word.proofs.bits.Statement.{statement}
 use Rattle.word.proofs.bits.Tie as tie
 

@@ -1,7 +1,7 @@
 -- `word::div` meets its contract. Assumes nothing.
 use mathlib.Core.Path.{_≡_, refl, sym, ap, _∙_}
 use mathlib.Core.List.{List, _∷_, []}
-use Prim.Native.Nat.{ℕ, zero, suc}
+use Prim.Native.Nat.{zero, suc}
 use lib.Dec.{eqb·suc-zero}
 use lib.IntN.{ℤ, pos, negsuc}
 use lib.Signed.{quotZ}

@@ -6,7 +6,6 @@ use native.Mathlib.Omega.{arith}
 use borrow.Author.Needs.{needs}
 use mir.Syntax.{w64}
 use mir.Val.{toZ}
-use mir.Facts.{toZ-pos}
 use Rattle.word.proofs.Signed.{toZ-signed64}
 use Rattle.word.proofs.from_bits.Statement.{statement}
 use Rattle.word.proofs.from_bits.Tie as tie

@@ -1,5 +1,5 @@
 -- `word::modulo_4` meets its contract: the residue of the 64 bits is that of the number. Assumes nothing.
-use mathlib.Core.Path.{_≡_, ap, _∙_}
+use mathlib.Core.Path.{ap, _∙_}
 use Prim.Native.Nat.{ℕ, _%_, _^_}
 use lib.IntN.{ℤ}
 use mir.Facts.{toZ-ofZ}

@@ -1,7 +1,7 @@
 -- `word::quotient` meets its contract: by -1 the quotient is the negation, wrapped; by any other number it fits. Assumes nothing.
-use mathlib.Core.Path.{_≡_, refl, sym, ap, _∙_}
+use mathlib.Core.Path.{_≡_, sym, ap, _∙_}
 use borrow.Author.Needs.{needs, sfits-of}
-use lib.IntN.{ℤ, pos, negsuc}
+use lib.IntN.{negsuc}
 use lib.Signed.{quotZ}
 use mir.Syntax.{w64}
 use mir.Val.{ofZ, SFits}

@@ -1,10 +1,8 @@
 -- `word::rem` meets its contract: m is above 0 and reads as itself, and the remainder is no larger than b. Assumes nothing.
-use mathlib.Core.Path.{_≡_, refl, sym, ap, _∙_}
 use borrow.Author.Needs.{needs}
-use lib.IntN.{ℤ, pos, negsuc, pos-ne-negsuc}
-use lib.Signed.{quotZ, remZ, mag-rem}
+use lib.IntN.{pos, pos-ne-negsuc}
+use lib.Signed.{mag-rem}
 use mir.Syntax.{w64}
-use mir.Val.{SFits}
 use mir.ValLaws.{sfits-le}
 use mir.Facts.{toZ-ofZ, toZ-pos}
 use Rattle.word.proofs.Wrapping.{quot-fits}

@@ -1,5 +1,5 @@
 -- `word::wrapping_add` meets its contract: the sum's residue is the residues' sum, modulo 2^64. Assumes nothing.
-use mathlib.Core.Path.{_≡_, refl, sym, ap, _∙_}
+use mathlib.Core.Path.{_≡_, sym, ap, _∙_}
 use Prim.Native.Nat.{_^_}
 use lib.IntN.{_+ℤ_}
 use borrow.Author.Needs.{needs, sfits-of}

@@ -1,6 +1,6 @@
 -- `colour::classify::classify` meets its contract: where the answer is Done, what `paint` requires follows from what the tests left; any other answer leaves the list as it was.
 -- Assumes nothing.
-use mathlib.Core.Path.{_≡_, sym}
+use mathlib.Core.Path.{sym}
 use mathlib.Core.List.{[], _∷_}
 use native.Mathlib.Omega.{arith}
 use types.Run.{miss}

@@ -7,7 +7,7 @@ use native.Mathlib.Omega.{arith}
 use lib.ListN.{length, take, drop, set, length-set, length-map}
 use Rattle.colour.specs.declared.palette.Found.the-variants.{Unknown}
 use Rattle.colour.specs.Classify.{found, colourUnder, coloursUnder}
-use Rattle.base.proofs.LentLaws.{write-turn, length-written, all-written, map-at}
+use Rattle.base.proofs.LentLaws.{write-turn, all-written, map-at}
 use Rattle.colour.proofs.ClassifyLaws.{length-found}
 use Rattle.colour.proofs.classify.paint.Statement.{statement}
 use Rattle.colour.proofs.classify.paint.Tie as tie

@@ -7,7 +7,7 @@ use native.Mathlib.Nat.{zero-add}
 use native.Mathlib.Omega.{arith}
 use lib.ListN.{length}
 use Rattle.base.specs.Numbers.{numbers, first}
-use Rattle.colour.specs.Label.{answer, labelOf, refused}
+use Rattle.colour.specs.Label.{answer}
 use Rattle.base.proofs.Over.{put-length}
 use Rattle.colour.proofs.LabelLaws.{Allowed, allowed, label-length, finished}
 use borrow.Author.Needs.{needs}

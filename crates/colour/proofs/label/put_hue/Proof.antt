@@ -1,7 +1,5 @@
 -- `colour::label::put_hue` meets its contract: each arm writes its name.
 -- Assumes nothing.
-use mathlib.Core.Path.{_≡_}
-use native.Mathlib.Omega.{arith}
 use Rattle.colour.proofs.LabelLaws.{hue-last}
 use borrow.Author.Needs.{needs}
 use Rattle.colour.proofs.label.put_hue.Statement.{statement}

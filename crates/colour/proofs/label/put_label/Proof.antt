@@ -1,7 +1,7 @@
 -- `colour::label::put_label` meets its contract: `Entry`, or the name and the two places one after the other.
 -- Assumes nothing.
 use native.Mathlib.Omega.{arith}
-use lib.ListN.{length, length-append}
+use lib.ListN.{length-append}
 use Rattle.colour.specs.Label.{name, place, labelOf}
 use Rattle.base.proofs.Over.{put-put, put-length}
 use Rattle.colour.proofs.LabelLaws.{name-length, place-length}

@@ -1,6 +1,5 @@
 -- `colour::label::put_name` meets its contract: black, white, or a lightness and a hue one after the other.
 -- Assumes nothing.
-use mathlib.Core.Path.{_≡_}
 use Prim.Native.Nat.{_/_}
 use native.Mathlib.Omega.{arith}
 use borrow.Author.Tests.{eq-eqb, ne-eqb}

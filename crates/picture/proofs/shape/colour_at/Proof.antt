@@ -2,7 +2,6 @@
 use mathlib.Core.Path.{_≡_, _∙_, sym}
 use Prim.Native.Nat.{ℕ, _*_, _<_, _≤_}
 use native.Mathlib.Omega.{arith}
-use Rattle.picture.specs.declared.Read.{Read}
 use Rattle.picture.specs.declared.Read.the-variants.{Colour, Outside}
 use Rattle.picture.proofs.Codels.{row-in, col-in}
 use Rattle.picture.proofs.Reading.{there}

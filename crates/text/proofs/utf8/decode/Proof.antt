@@ -3,7 +3,8 @@
 use mathlib.Core.Path.{refl}
 use native.Mathlib.Omega.{arith}
 use borrow.Author.Needs.{needs}
-use Rattle.text.specs.Utf8.{past, leads2, leads3, leads4}
+use Rattle.text.specs.Utf8.{past}
+use Rattle.text.specs.LongChar.{of-two, of-three, of-four}
 use Rattle.text.proofs.DecodeLaws.{no-char-at, never1, read1}
 use Rattle.text.proofs.utf8.decode.Statement.{statement}
 use Rattle.text.proofs.utf8.decode.Tie as tie
@@ -32,13 +33,13 @@ returns-3 c =
     (λ k st. never1 (z .args .s .now) (z .args .at) k st (omega arith) (omega arith))
 
 decode-long-requires : tie.Need-decode-long-requires
-decode-long-requires c κs = (omega arith, leads2 (omega arith) (omega arith) refl refl)
+decode-long-requires c κs = (omega arith, of-two (omega arith) (omega arith) refl refl)
 
 returns-4 : tie.Need-returns-4
 returns-4 c = search needs
 
 decode-long-requires-2 : tie.Need-decode-long-requires-2
-decode-long-requires-2 c κs = (omega arith, leads3 (omega arith) (omega arith) refl refl)
+decode-long-requires-2 c κs = (omega arith, of-three (omega arith) (omega arith) refl refl)
 
 returns-5 : tie.Need-returns-5
 returns-5 c = search needs
@@ -47,7 +48,7 @@ decode-long-requires-3 : tie.Need-decode-long-requires-3
 decode-long-requires-3 c κs =
     let y = c .before .before .before .before .before in
     let byte = y .shared-slice-known2 .given (y .before .before .before .args .at) in
-    (omega arith, leads4 (omega arith) (omega arith) refl refl)
+    (omega arith, of-four (omega arith) (omega arith) refl refl)
 
 returns-6 : tie.Need-returns-6
 returns-6 c = search needs

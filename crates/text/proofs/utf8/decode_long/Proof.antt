@@ -5,7 +5,7 @@ use Prim.Native.Nat.{_+_, _-_, _≤_}
 use mathlib.Core.Path.{_≡_, sym, _∙_}
 use native.Mathlib.Omega.{arith}
 use borrow.Author.Needs.{needs}
-use Rattle.text.specs.Utf8.{Carries}
+use Rattle.text.specs.LongChar.{Carries}
 use Rattle.text.proofs.DecodeLaws.{carries, no-tail, no-char-at, Gathers, gathers-none, gathers-more, all-of, few-more, number-small, tail-needed, same-number, reads-long, no-scalar}
 use Rattle.text.proofs.utf8.decode_long.Statement.{statement}
 use Rattle.text.proofs.utf8.decode_long.Tie as tie

@@ -4,7 +4,7 @@ use Prim.Native.Nat.{_-_}
 use mathlib.Core.Path.{refl}
 use native.Mathlib.Omega.{arith}
 use borrow.Author.Needs.{needs}
-use Rattle.text.specs.Utf8.{tail, other}
+use Rattle.text.specs.LongChar.{tail, other}
 use Rattle.text.proofs.utf8.tail_at.Statement.{statement}
 use Rattle.text.proofs.utf8.tail_at.Tie as tie
 

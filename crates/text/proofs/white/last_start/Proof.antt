@@ -1,6 +1,6 @@
 -- `text::white::last_start` meets its contract. The loop's invariant: what stands after `k` are continuation bytes.
 -- Assumes nothing.
-use Prim.Native.Nat.{ℕ, _-_, _<_}
+use Prim.Native.Nat.{ℕ, _<_}
 use native.Mathlib.Omega.{arith}
 use borrow.Author.Needs.{needs}
 use lib.ListN.{getD}

@@ -1,6 +1,6 @@
 -- `text::white::white_back` meets its contract. The loop's invariant: what stands from `e` on is white space at the back.
 -- Assumes nothing.
-use Prim.Native.Nat.{ℕ, _-_, _≤_}
+use Prim.Native.Nat.{ℕ, _≤_}
 use mathlib.Core.Path.{refl, sym, _∙_, subst}
 use mathlib.Core.List.{List}
 use native.Mathlib.Omega.{arith}
