@@ -11,3 +11,5 @@ pub mod Refusing
 pub mod Leads
 pub mod Ahead
 pub mod Black
+pub mod FirstIllegal
+pub mod Examples

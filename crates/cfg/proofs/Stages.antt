@@ -16,16 +16,16 @@ use lib.ListN.{length, getD, replicate}
 use lib.Seq.{drop-length}
 use Rattle.base.specs.Lent.{filled}
 use Rattle.base.proofs.Over.{filled-zero}
-use Rattle.flow.specs.Pointer.{stateNumber, ofNumber}
+use Rattle.flow.specs.Pointer.{ofNumber}
 use Rattle.cfg.specs.Nodes.{Adds, beside, astray, over, landing, Found, entry, next, Node}
 use Rattle.cfg.specs.Table.{Marks, is, none, Exit, no-node, Builds}
 use Rattle.cfg.specs.Search.{mark, InGrid, Grounds, Occurs, Begun, Ready, Searched, isNode, Kept, stays, goes, Cleared}
 use Rattle.table.specs.Layout.{rowCell, colourField, sizeField, rowField, columnField, markField, exitCell, rowsRoom, exitsRoom, fieldAt, exitAt, rowAt, blank}
-use Rattle.table.proofs.Cells.{row-past, exit-apart, same-row, blank-fields}
+use Rattle.table.proofs.Cells.{row-past, same-row, blank-fields}
 use Rattle.picture.specs.Picture.{Picture, rowsOf, colsOf, codels, codelColour}
 use Rattle.exit.specs.declared.attempt.Way.{Way}
 use Rattle.colour.specs.Palette.{white}
-use Rattle.exit.specs.Keeping.{Mapped, AllKept, cellOf}
+use Rattle.exit.specs.LeaveTable.{Mapped, AllKept}
 use Rattle.region.proofs.MapLaws.{map-low}
 use Rattle.region.specs.Rows.{Row}
 use Rattle.picture.proofs.Codels.{cols-pos, first-in, inside-of}
@@ -81,9 +81,7 @@ module _ {p : Picture} {map : List ℕ} {n : ℕ} {rows : List ℕ} (B : Begun p
     work-long = wl;
     first = omega (arith, map-low (gridOf p) map n (B .regions) 0 (first-in (B .sound)));
     unmarked = unmarked;
-    leaving = λ j h s i.
-        let e : cellOf map (ofNumber s) j ≡ exitCell (getD map j 0) s = omega arith in
-        rw e at (K .leaves s i j h);
+    leaving = λ j h s i. K .leaves s i j h;
   }
 
   -- a found region has a codel, and so a number below n
@@ -212,7 +210,7 @@ module _ {p : Picture} {map : List ℕ} {n : ℕ} {rows : List ℕ} (B : Begun p
       exit-zero s k =
           C .exits-same r s k h
           ∙ S .same r s k (not-found h)
-          ∙ K .others (exitCell r s) (λ t i j l e. let x = exit-apart (getD map j 0) (stateNumber (ofNumber t)) r s (omega arith) k e in omega (arith, B .regions .below j (omega (arith, B .map-long)), x .0))
+          ∙ K .others r s k (λ i j l e. omega (arith, B .regions .below j (omega (arith, B .map-long)), e))
           ∙ zero-at (exitsRoom (codels p)) (exitCell r s)
 
     pub builds : {work : List ℕ} → length rows″ ≡ rowsRoom (codels p) → length exits″ ≡ exitsRoom (codels p) → work ≡ replicate (codels p) 0 → Builds p map rows″ exits″ work n

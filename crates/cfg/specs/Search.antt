@@ -1,5 +1,5 @@
--- What the search for nodes keeps: the marks in the region rows, the queue in the work slice, and the exits that are settled.
--- Assumes nothing.
+-- Inner: what the search for nodes keeps: the marks in the region rows, the queue in the work slice, and the exits that are
+-- settled; no public contract cites it. Assumes nothing.
 use mathlib.Core.Path.{_≡_}
 use mathlib.Core.Logic.{_≢_}
 use mathlib.Core.Bool.{Bool, true, false, cond, not}

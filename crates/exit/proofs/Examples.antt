@@ -18,7 +18,7 @@ abbrev Leaving : Picture → ℕ → Way → Type 0
 Leaving p state w = Attempt p 0 0 (ofNumber state) w
 
 -- "1 x 2 red, white: exits 262,145 and 327,681, back to itself": two turns at the white codel, so in state 4 and in state 5
-abbrev red-white : Picture
+abbrev pub red-white : Picture
 red-white = picture 1 2 1 (6 ∷ 19 ∷ [])
 
 pub back-to-itself : Leaving red-white 0 (Glide 0 1 0 0 (ofNumber 4)) × Leaving red-white 1 (Glide 0 1 0 0 (ofNumber 5))
@@ -27,7 +27,7 @@ back-to-itself =
     (glide refl (record { trail = _; slides = turn refl refl (turn refl refl (land refl refl)) }), glide refl (record { trail = _; slides = turn refl refl (turn refl refl (land refl refl)) }))
 
 -- "1 x 3 red, white, red: 3 and 65,539": straight on, in the same state
-abbrev red-white-red : Picture
+abbrev pub red-white-red : Picture
 red-white-red = picture 1 3 1 (6 ∷ 19 ∷ 6 ∷ [])
 
 pub straight-on : Leaving red-white-red 0 (Glide 0 1 0 2 (ofNumber 0)) × Leaving red-white-red 1 (Glide 0 1 0 2 (ofNumber 1))

@@ -14,9 +14,11 @@ use Rattle.base.proofs.Tests.{by-size}
 use Rattle.flow.specs.Pointer.{Valid, stateNumber, ofNumber}
 use Rattle.flow.proofs.Order.{number-small}
 use Rattle.flow.specs.declared.PointerState.{PointerState}
-use Rattle.table.specs.Layout.{exitCell}
+use Rattle.table.specs.Layout.{exitCell, exitAt}
+use Rattle.table.proofs.Cells.{exit-apart}
 use Rattle.exit.specs.Leaving.{beats, Furthest, LeavesBy}
-use Rattle.exit.specs.Keeping.{Mapped, Cells, cellOf, better, kept, Kept, AllKept}
+use Rattle.exit.specs.LeaveTable.{Mapped, AllKept}
+use Rattle.exit.specs.Keeping.{cellOf, Cells, better, kept, Kept}
 use Rattle.exit.proofs.LeavingLaws.{beats-self, beats-past}
 
 -- a number below i + 1 is below i, or i
@@ -169,30 +171,44 @@ stored map best rows cols s i e f g = rw (g, f, e)
 -- ---- one state more
 
 pub all-none : (map best : List ℕ) (rows cols : ℕ) → AllKept map best best rows cols 0
-all-none map best rows cols = record { same-length = refl; leaves = λ s l. absurd (none s l); others = λ k n. refl }
+all-none map best rows cols = record { same-length = refl; leaves = λ s l. absurd (none s l); others = λ r s k n. refl }
   where
     none : (j : ℕ) → j < 0 → ⊥
     none j l = omega arith
 
--- cells of two states are apart
-apart : (x y s n : ℕ) → s < n → exitCell x (stateNumber (ofNumber n)) ≡ exitCell y (stateNumber (ofNumber s)) → n < 8 → ⊥
-apart x y s n l e h = omega arith
+-- a state's number
+number-is : (s : ℕ) → stateNumber (ofNumber s) ≡ s
+number-is s = omega arith
 
 pub all-more : (map before best after : List ℕ) (rows cols n : ℕ) → n < 8 → AllKept map before best rows cols n
     → Kept map best after rows cols (ofNumber n) (length map) → AllKept map before after rows cols (n + 1)
 all-more map before best after rows cols n h A K =
     record {
       same-length = K .same-length ∙ A .same-length;
-      leaves = λ s l j m. last-or s n l
-          (λ o.
-          subst (LeavesBy map rows cols (ofNumber s) (getD map j 0))
-          (sym (K .others (cellOf map (ofNumber s) j) (λ i _ e. apart (getD map i 0) (getD map j 0) s n o e h)))
-          (A .leaves s o j m))
-          (λ o. subst (λ (t : ℕ). LeavesBy map rows cols (ofNumber t) (getD map j 0) (getD after (cellOf map (ofNumber t) j) 0)) (sym o) (K .best j m));
-      others = λ k none.
-          K .others k (λ j l e. none n (omega arith) j l e)
-          ∙ A .others k (λ s l j m e. none s (omega arith) j m e);
+      leaves = λ s l j m. last-or s n l (earlier s j m) (λ o. subst (λ (t : ℕ). Left t j) (sym o) (now j m));
+      others = λ r s k none.
+          K .others (exitCell r s) (λ j l e. let x = meet j r s k e in none (omega (arith, x .1)) j l (x .0))
+          ∙ A .others r s k (λ l j m e. none (omega arith) j m e);
     }
+  where
+    -- the codel to leave by stands in the exit of codel j's region
+    Left : ℕ → ℕ → Type 0
+    Left s j = LeavesBy map rows cols (ofNumber s) (getD map j 0) (exitAt after (getD map j 0) s)
+
+    -- a cell of this pass that is a region's exit in a state
+    meet : (j r s : ℕ) → s < 8 → cellOf map (ofNumber n) j ≡ exitCell r s → (getD map j 0 ≡ r) × (n ≡ s)
+    meet j r s k e =
+        let x = exit-apart (getD map j 0) (stateNumber (ofNumber n)) r s (omega arith) k e in
+        (x .0, sym (number-is n) ∙ x .1)
+
+    earlier : (s j : ℕ) → j < length map → s < n → Left s j
+    earlier s j m o =
+        subst (LeavesBy map rows cols (ofNumber s) (getD map j 0))
+        (sym (K .others (exitCell (getD map j 0) s) (λ i l e. omega (arith, meet i (getD map j 0) s (omega arith) e .1))))
+        (A .leaves s o j m)
+
+    now : (j : ℕ) → j < length map → Left n j
+    now j m = subst (λ (c : ℕ). LeavesBy map rows cols (ofNumber n) (getD map j 0) (exitAt after (getD map j 0) c)) (number-is n) (K .best j m)
 
 -- ---- the cells are cleared first
 

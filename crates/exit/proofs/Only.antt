@@ -1,6 +1,6 @@
 -- What the contracts cite is determined: a slide and an attempt have one outcome, a region has one codel to leave by in
 -- each state, and there is one table of these over given cells. Assumes nothing.
-use mathlib.Core.Path.{_≡_, refl, sym, ap₂, subst, _∙_}
+use mathlib.Core.Path.{_≡_, refl, sym, subst, _∙_}
 use mathlib.Core.Bool.{Bool, true, false}
 use mathlib.Core.Logic.{_⊎_, inl, inr}
 use mathlib.Core.List.{List}
@@ -9,12 +9,12 @@ use native.Mathlib.Omega.{arith}
 use borrow.Author.Tests.{eqb-true, eqb-false}
 use lib.Dec.{eqb}
 use lib.ListN.{length, getD}
-use Rattle.flow.specs.Pointer.{Valid, stateNumber, ofNumber}
-use Rattle.flow.proofs.Order.{valid-number, number-small}
+use Rattle.flow.specs.Pointer.{Valid}
+use Rattle.flow.proofs.Order.{valid-number}
 use Rattle.flow.specs.declared.PointerState.{PointerState}
 use Rattle.picture.specs.Picture.{Picture}
-use Rattle.table.specs.Layout.{exitCell, exitAt}
-use Rattle.table.proofs.Cells.{exit-apart, same-exits}
+use Rattle.table.specs.Layout.{exitAt}
+use Rattle.table.proofs.Cells.{same-exits}
 use Rattle.exit.specs.declared.slide.Sight.{Sight}
 use Rattle.exit.specs.declared.slide.Sight.the-variants.{White}
 use Rattle.exit.specs.declared.slide.Slid.{Slid}
@@ -24,7 +24,7 @@ use Rattle.exit.specs.Slide.{Slide, lost, turn, move, land, Ends}
 use Rattle.exit.specs.Attempt as attempts
 use Rattle.exit.specs.Attempt.{Attempt, shut, step, glide}
 use Rattle.exit.specs.Leaving.{LeavesBy}
-use Rattle.exit.specs.Keeping.{cellOf, AllKept}
+use Rattle.exit.specs.LeaveTable.{AllKept}
 use Rattle.exit.proofs.LeavingLaws.{neither}
 use Rattle.base.proofs.Clash.{clash}
 
@@ -115,10 +115,6 @@ only-table map before one two rows cols h g A B =
   where
     at : (r s : ℕ) → s < 8 → Met map r (length map) ⊎ (Met map r (length map) → ⊥) → exitAt one r s ≡ exitAt two r s
     at r s l (inl t) =
-        let e : cellOf map (ofNumber s) (t .0) ≡ exitCell r s = ap₂ exitCell (t .2) (omega arith) in
-        subst (λ (c : ℕ). getD one c 0 ≡ getD two c 0) e
+        subst (λ (q : ℕ). exitAt one q s ≡ exitAt two q s) (t .2)
         (leaving-only h g (valid-number s l) (A .leaves s l (t .0) (t .1)) (B .leaves s l (t .0) (t .1)))
-    at r s l (inr never) = A .others (exitCell r s) miss ∙ sym (B .others (exitCell r s) miss)
-      where
-        miss : (q : ℕ) → q < 8 → (j : ℕ) → j < length map → cellOf map (ofNumber q) j ≡ exitCell r s → ⊥
-        miss q k j m e = never (j, m, exit-apart (getD map j 0) (stateNumber (ofNumber q)) r s (number-small (ofNumber q) (valid-number q k)) l e .0)
+    at r s l (inr never) = A .others r s l (λ _ j m e. never (j, m, e)) ∙ sym (B .others r s l (λ _ j m e. never (j, m, e)))

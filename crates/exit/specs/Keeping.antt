@@ -1,25 +1,16 @@
--- The table of the codels to leave by, in the exit cells of the regions (document 01, "For each state the codel to leave
--- by"), and what a pass over the codels makes of it. Assumes nothing.
+-- Inner: what a pass over the codels makes of the table of the codels to leave by; no public contract cites it. Assumes
+-- nothing.
 use mathlib.Core.Path.{_≡_}
 use mathlib.Core.Bool.{cond}
 use mathlib.Core.List.{List}
-use Prim.Native.Nat.{ℕ, _*_, _<_, _≤_}
+use Prim.Native.Nat.{ℕ, _<_}
 use lib.Dec.{eqb}
 use lib.ListN.{length, getD, set}
-use Rattle.flow.specs.Pointer.{stateNumber, ofNumber}
+use Rattle.flow.specs.Pointer.{stateNumber}
 use Rattle.flow.specs.declared.PointerState.{PointerState}
-use Rattle.table.specs.Layout.{exitCell, exitsRoom}
-use Rattle.exit.specs.Leaving.{beats, Furthest, LeavesBy}
-
--- a map of a grid that is not empty: at most 65,536 codels, no more regions than codels, and so many cells as document 01
--- asks room for
-pub record Mapped (map : List ℕ) (cells rows cols : ℕ) : Type 0 where
-  pub grid : length map ≡ rows * cols
-  pub cols-pos : 0 < cols
-  pub some : 0 < length map
-  pub few : length map ≤ 65536
-  pub numbered : (k : ℕ) → k < length map → getD map k 0 < length map
-  pub room : exitsRoom (length map) ≤ cells
+use Rattle.table.specs.Layout.{exitCell}
+use Rattle.exit.specs.Leaving.{beats, Furthest}
+use Rattle.exit.specs.LeaveTable.{Mapped}
 
 -- such a map, and cells that each hold some codel
 pub record Cells (map best : List ℕ) (rows cols : ℕ) : Type 0 where
@@ -43,12 +34,3 @@ pub record Kept (map before after : List ℕ) (rows cols : ℕ) (s : PointerStat
   pub same-length : length after ≡ length before
   pub best : (j : ℕ) → j < n → Furthest map rows cols s n (getD map j 0) (getD after (cellOf map s j) 0)
   pub others : (k : ℕ) → ((j : ℕ) → j < n → cellOf map s j ≡ k → ⊥) → getD after k 0 ≡ getD before k 0
-
--- after the passes in the first n states: the codel to leave by in the cell of each region and state, the other cells as
--- before
-pub record AllKept (map before after : List ℕ) (rows cols n : ℕ) : Type 0 where
-  pub same-length : length after ≡ length before
-  pub leaves : (s : ℕ) → s < n → (j : ℕ) → j < length map
-      → LeavesBy map rows cols (ofNumber s) (getD map j 0) (getD after (cellOf map (ofNumber s) j) 0)
-  pub others : (k : ℕ) → ((s : ℕ) → s < n → (j : ℕ) → j < length map → cellOf map (ofNumber s) j ≡ k → ⊥)
-      → getD after k 0 ≡ getD before k 0

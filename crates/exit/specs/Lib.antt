@@ -3,5 +3,6 @@ pub mod Trail
 pub mod Slide
 pub mod Attempt
 pub mod Leaving
+pub mod LeaveTable
 pub mod Keeping
 pub mod Opens

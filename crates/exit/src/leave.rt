@@ -5,7 +5,8 @@ ghost use Prim.Native.Nat.{_*_, _<_};
 ghost use lib.ListN.{length, replicate};
 ghost use Rattle.flow.specs.Pointer.{Valid};
 ghost use Rattle.exit.specs.Leaving.{reach, beats};
-ghost use Rattle.exit.specs.Keeping.{Mapped, Cells, Kept, AllKept, better, kept};
+ghost use Rattle.exit.specs.LeaveTable.{Mapped, AllKept};
+ghost use Rattle.exit.specs.Keeping.{Cells, Kept, better, kept};
 use flow::PointerState;
 use table::wide;
 

@@ -8,7 +8,7 @@ use Rattle.picture.specs.declared.shape.Shape.{Shape}
 use Rattle.picture.specs.Picture.{Picture, Inside, shapeOf, pictureOf, Frames}
 use Rattle.picture.proofs.Codels.{frames-few, frames-shape, inside-of, row-in, col-in}
 use Rattle.region.specs.Grid.{gridOf, gridAt}
-use Rattle.region.specs.Steps.{Room}
+use Rattle.region.specs.Room.{Room}
 
 pub grid-is : (p : Picture) → gridAt (p .colours) (shapeOf p) ≡ gridOf p
 grid-is p = refl

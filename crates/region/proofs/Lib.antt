@@ -11,3 +11,4 @@ pub mod Spreading
 pub mod Filling
 pub mod Numbering
 pub mod Tabling
+pub mod Examples

@@ -3,4 +3,5 @@ pub mod Grid
 pub mod Region
 pub mod Tally
 pub mod Rows
+pub mod Room
 pub mod Steps

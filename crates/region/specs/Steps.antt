@@ -1,11 +1,10 @@
--- What the functions on the way promise of the map, the queue and the rows. Assumes nothing.
+-- Inner: what the functions on the way promise of the map, the queue and the rows; no public contract cites it. Assumes
+-- nothing.
 use mathlib.Core.Path.{_≡_}
 use mathlib.Core.Logic.{_≢_, _⊎_}
 use mathlib.Core.List.{List}
 use Prim.Native.Nat.{ℕ, _+_, _*_, _/_, _%_, _≤_, _<_}
 use lib.ListN.{length, getD, set, drop}
-use Rattle.picture.specs.declared.shape.Shape.{Shape}
-use Rattle.picture.specs.Picture.{Frames}
 use Rattle.table.specs.Layout.{rowCell, colourField, sizeField, rowField, columnField}
 use Rattle.region.specs.Tally.{tally}
 use Rattle.region.specs.Grid.{Grid, count, Toward, Adjacent}
@@ -66,12 +65,6 @@ pub record Numbered (g : Grid) (i k : ℕ) (m w m′ w′ : List ℕ) : Type 0 w
   pub part : Part g i k m′
   pub map-rest : drop (count g) m′ ≡ drop (count g) m
   pub work-rest : drop (count g) w′ ≡ drop (count g) w
-
--- the shape belongs to the colours, and both slices have a cell for each codel
-pub record Room (colours : List ℕ) (s : Shape) (m w : List ℕ) : Type 0 where
-  pub frames : Frames colours s
-  pub map-room : s .rows * s .cols ≤ length m
-  pub work-room : s .rows * s .cols ≤ length w
 
 -- the row r begun with its first codel, i
 unfoldable pub begun : Grid → ℕ → ℕ → ℕ → List ℕ → List ℕ

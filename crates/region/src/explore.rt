@@ -7,7 +7,8 @@ ghost use mathlib.Core.Path.{_≡_};
 ghost use Prim.Native.Nat.{_+_, _*_, _≤_, _<_};
 ghost use lib.ListN.{getD};
 ghost use Rattle.region.specs.Grid.{gridAt};
-ghost use Rattle.region.specs.Steps.{unnumbered, vacant, Visit, Spread, Part, Numbered, Room};
+ghost use Rattle.region.specs.Room.{Room};
+ghost use Rattle.region.specs.Steps.{unnumbered, vacant, Visit, Spread, Part, Numbered};
 
 // What a codel without a number has in the map.
 pub const MARK: u32 = 65536;

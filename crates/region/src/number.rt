@@ -10,7 +10,8 @@ ghost use Prim.Native.Nat.{_+_, _*_, _<_};
 ghost use lib.ListN.{drop, replicate};
 ghost use Rattle.region.specs.Grid.{gridAt};
 ghost use Rattle.region.specs.Region.{IsMap};
-ghost use Rattle.region.specs.Steps.{Part, Numbered, Room};
+ghost use Rattle.region.specs.Room.{Room};
+ghost use Rattle.region.specs.Steps.{Part, Numbered};
 
 // Numbers codel i's region, the next one, where codel i has no number yet. Returns the count of
 // regions numbered.

@@ -4,7 +4,8 @@ use mathlib.Core.List.{List}
 use Prim.Native.Nat.{ℕ}
 use denote.Ref.{now}
 use borrow.Author.Needs.{needs}
-use Rattle.exit.specs.Keeping.{Cells, AllKept}
+use Rattle.exit.specs.LeaveTable.{AllKept}
+use Rattle.exit.specs.Keeping.{Cells}
 use Rattle.exit.proofs.KeepingLaws.{all-zero, cells-zero}
 use Rattle.exit.proofs.leave.leave_by.Statement.{statement}
 use Rattle.exit.proofs.leave.leave_by.Tie as tie

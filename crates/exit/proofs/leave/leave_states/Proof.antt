@@ -8,7 +8,8 @@ use lib.ListN.{length}
 use Rattle.flow.specs.Pointer.{Valid}
 use Rattle.flow.proofs.Order.{valid-number}
 use Rattle.flow.specs.declared.PointerState.{PointerState}
-use Rattle.exit.specs.Keeping.{Cells, Kept, AllKept}
+use Rattle.exit.specs.LeaveTable.{AllKept}
+use Rattle.exit.specs.Keeping.{Cells, Kept}
 use Rattle.exit.proofs.KeepingLaws.{all-none, all-more}
 use Rattle.exit.proofs.leave.leave_states.Statement.{statement}
 use Rattle.exit.proofs.leave.leave_states.Tie as tie

@@ -1,0 +1,65 @@
+-- Document 01's exit numbers of small pictures, by the definition. Red is 6, white 19. Assumes nothing.
+use mathlib.Core.Path.{_≡_, refl, subst}
+use mathlib.Core.List.{List, [], _∷_}
+use Prim.Native.Nat.{ℕ, zero, suc, _<_}
+use native.Mathlib.Omega.{arith}
+use lib.Dec.{lit<}
+use lib.ListN.{length, getD}
+use Rattle.flow.specs.Pointer.{ofNumber}
+use Rattle.flow.specs.declared.PointerState.{PointerState}
+use Rattle.colour.specs.Palette.{white}
+use Rattle.picture.specs.Picture.{Picture, codels, codelColour}
+use Rattle.exit.specs.Leaving.{LeavesBy}
+use Rattle.exit.specs.Opens.{across}
+use Rattle.exit.proofs.LeavingLaws.{beats-self}
+use Rattle.exit.proofs.Examples.{red-white, back-to-itself, red-white-red, straight-on}
+use Rattle.cfg.specs.Nodes.{entry, Node}
+use Rattle.cfg.specs.Table.{Exit, leads}
+
+-- region 0 has the first codel and no other
+abbrev Alone : List ℕ → Type 0
+Alone map = (j : ℕ) → j < length map → getD map j 0 ≡ 0 → j ≡ 0
+
+-- so it is left by that codel
+leaves-first : (map : List ℕ) (rows cols : ℕ) (q : PointerState) → 0 < length map → getD map 0 0 ≡ 0 → Alone map → LeavesBy map rows cols q 0 0
+leaves-first map rows cols q h own alone =
+    record { codel = h; own = own; unbeaten = λ j l e. rw (alone j l e) (beats-self rows cols q 0) }
+
+-- and is a node where the codel is not white
+first-node : (p : Picture) (map : List ℕ) → length map ≡ codels p → Alone map → (codelColour p 0 ≡ white → ⊥) → Node p map 0
+first-node p map l alone coloured = record {
+  found = entry;
+  coloured = λ w. coloured (subst (λ (j : ℕ). codelColour p j ≡ white) (alone (w .codel) (omega (arith, w .inside)) (w .own)) (w .colour));
+}
+
+not-white : _≡_ {A = ℕ} 6 white → ⊥
+not-white e = omega arith
+
+-- "1 x 2 red, white: exits 262,145 and 327,681, back to itself"
+alone-of-two : Alone (0 ∷ 1 ∷ [])
+alone-of-two zero h e = refl
+alone-of-two (suc zero) h e = absurd (omega arith)
+alone-of-two (suc (suc j)) h e = absurd (omega arith)
+
+pub back-numbers : Exit red-white (0 ∷ 1 ∷ []) 0 (ofNumber 0) 262145 × Exit red-white (0 ∷ 1 ∷ []) 0 (ofNumber 1) 327681
+back-numbers =
+    let node = first-node red-white (0 ∷ 1 ∷ []) refl alone-of-two not-white in
+    let leaves : (q : PointerState) → LeavesBy (0 ∷ 1 ∷ []) 1 2 q 0 0 = λ q. leaves-first (0 ∷ 1 ∷ []) 1 2 q (lit< tt) refl alone-of-two in (
+      leads node (across (record { codel = 0; leaves = leaves (ofNumber 0); way = back-to-itself .0 })),
+      leads node (across (record { codel = 0; leaves = leaves (ofNumber 1); way = back-to-itself .1 })),
+    )
+
+-- "1 x 3 red, white, red: 3 and 65,539"
+alone-of-three : Alone (0 ∷ 1 ∷ 2 ∷ [])
+alone-of-three zero h e = refl
+alone-of-three (suc zero) h e = absurd (omega arith)
+alone-of-three (suc (suc zero)) h e = absurd (omega arith)
+alone-of-three (suc (suc (suc j))) h e = absurd (omega arith)
+
+pub straight-numbers : Exit red-white-red (0 ∷ 1 ∷ 2 ∷ []) 0 (ofNumber 0) 3 × Exit red-white-red (0 ∷ 1 ∷ 2 ∷ []) 0 (ofNumber 1) 65539
+straight-numbers =
+    let node = first-node red-white-red (0 ∷ 1 ∷ 2 ∷ []) refl alone-of-three not-white in
+    let leaves : (q : PointerState) → LeavesBy (0 ∷ 1 ∷ 2 ∷ []) 1 3 q 0 0 = λ q. leaves-first (0 ∷ 1 ∷ 2 ∷ []) 1 3 q (lit< tt) refl alone-of-three in (
+      leads node (across (record { codel = 0; leaves = leaves (ofNumber 0); way = straight-on .0 })),
+      leads node (across (record { codel = 0; leaves = leaves (ofNumber 1); way = straight-on .1 })),
+    )
