@@ -1,8 +1,8 @@
 -- "Jobs on either side (P: proved)": each P line of document 01 as a question and its answer, in its order.
 -- Assumes nothing.
 use mathlib.Core.List.{List, [], _∷_, map}
-use Prim.Native.Nat.{ℕ, _^_}
-use lib.IntN.{ℤ, pos, negsuc, natAbs, _+ℤ_}
+use Prim.Native.Nat.{ℕ}
+use lib.IntN.{ℤ, pos, negsuc, _+ℤ_}
 use Rattle.word.specs.Word.{wrap, quotient, remainder}
 use Rattle.colour.specs.Decode.{decodeOf}
 use Rattle.flow.specs.Pointer.{stateNumber, ofNumber, attemptOf}

@@ -1,7 +1,5 @@
-use mathlib.Core.Path.{_≡_}
-use Prim.Native.Nat.{_+_, _-_, _*_, _<_, _≤_}
+use Prim.Native.Nat.{_-_, _≤_}
 use borrow.Author.Needs.{needs}
-use lib.ListN.{length}
 use Rattle.replay_colours.proofs.print_pairs_from.Statement.{statement}
 use Rattle.replay_colours.proofs.print_pairs_from.Tie as tie
 
