@@ -29,6 +29,16 @@ use Rattle.picture.specs.Picture.{Picture, ceil, codels}
 use Rattle.picture.proofs.Codels.{cols-pos}
 use Rattle.cfg.proofs.TableLaws.{table-only}
 
+-- what is known of the count of codels that the code worked out
+pub few-of : {x y : ℕ} → x ≡ y → x ≤ 65536 → y ≤ 65536
+few-of e h = omega arith
+
+pub many-of : {x y : ℕ} → x ≡ y → 65536 < x → 65536 < y
+many-of e h = omega arith
+
+pub short-of : (m r e w : ℕ) {x y : ℕ} {b v : Bool} → x ≡ y → b ≡ short x m r e w → b ≡ v → short y m r e w ≡ v
+short-of m r e w q h k = (rw q at (sym h)) ∙ k
+
 -- the scan for a colour above 19
 module _ (cs : List ℕ) (i : ℕ) (h : i < length cs) where
   pub legal-stop : 19 < getD cs i 0 → legalFirst (drop i cs) ≡ 0

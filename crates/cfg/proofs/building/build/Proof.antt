@@ -26,10 +26,14 @@ shape-of-requires c κs =
 
 write-table-requires : tie.Need-write-table-requires
 write-table-requires c κs =
-    let the-args = c .before .before .before .before .before .before .before .before .before .before .before .before .before .args in
-    let the-enum-told = c .before .before .before .before .before .enum-told in
-    let the-check = c .before .before .before .before .before .before .before .check in
-    let the-shape-of = c .before .before .before .before .shape-of in
+    let at-shape-of = c .before .before .before .before in
+    let at-enum-told = at-shape-of .before in
+    let at-check = at-enum-told .before .before in
+    let start = at-check .before .before .before .before .before .before in
+    let the-args = start .args in
+    let the-enum-told = at-enum-told .enum-told in
+    let the-check = at-check .check in
+    let the-shape-of = at-shape-of .shape-of in
     let k = accepted (picture (the-args .height) (the-args .width) (the-args .codel) (the-args .colours .now)) (length (the-args .map .now)) (length (the-args .rows .now)) (length (the-args .exits .now)) (length (the-args .work .now)) _ (rw (the-enum-told .given .1) at (the-check .ensures)) in rw (the-shape-of .ensures) (k, frames (k .sound))
 
 same-length : tie.Need-same-length
@@ -46,11 +50,16 @@ same-length-4 c = search needs
 
 returns : tie.Need-returns
 returns c =
-    let the-args = c .before .before .before .before .before .before .before .before .before .before .before .before .before .before .before .before .before .before .before .before .before .before .args in
-    let the-enum-told = c .before .before .before .before .before .before .before .before .before .before .before .before .before .before .enum-told in
-    let the-check = c .before .before .before .before .before .before .before .before .before .before .before .before .before .before .before .before .check in
-    let the-shape-of = c .before .before .before .before .before .before .before .before .before .before .before .before .before .shape-of in
-    let the-write-table = c .before .before .before .before .before .before .before .before .write-table in
+    let at-write-table = c .before .before .before .before .before .before .before .before in
+    let at-shape-of = at-write-table .before .before .before .before .before in
+    let at-enum-told = at-shape-of .before in
+    let at-check = at-enum-told .before .before in
+    let start = at-check .before .before .before .before .before .before in
+    let the-args = start .args in
+    let the-enum-told = at-enum-told .enum-told in
+    let the-check = at-check .check in
+    let the-shape-of = at-shape-of .shape-of in
+    let the-write-table = at-write-table .write-table in
     done (none-refused (picture (the-args .height) (the-args .width) (the-args .codel) (the-args .colours .now)) (length (the-args .map .now)) (length (the-args .rows .now)) (length (the-args .exits .now)) (length (the-args .work .now)) _ (rw (the-enum-told .given .1) at (the-check .ensures))) (rw (the-shape-of .ensures) at (the-write-table .ensures))
 
 returns-2 : tie.Need-returns-2

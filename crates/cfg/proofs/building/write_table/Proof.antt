@@ -45,41 +45,54 @@ slice-relend-prefix-fill-table-2 c =
 
 slice-aggregate-fill-table-2 : tie.Need-slice-aggregate-fill-table-2
 slice-aggregate-fill-table-2 c =
+    let at-shared-slice-known = c .before .before .before .before .before .before .before .before .before in
+    let start = at-shared-slice-known .before in
     let the-rows-room = c .before .before .before .rows-room in
-    let the-args = c .before .before .before .before .before .before .before .before .before .before .args in
-    let the-pre = c .before .before .before .before .before .before .before .before .before .before .pre in
+    let the-args = start .args in
+    let the-pre = start .pre in
     sym (length-take-le (the-rows-room .result) (the-args .rows .now) (omega (arith, frames-count (the-pre .1), the-pre .0 .rows-in, the-rows-room .ensures)))
 
 slice-relend-prefix-fill-table-3 : tie.Need-slice-relend-prefix-fill-table-3
 slice-relend-prefix-fill-table-3 c =
-    let the-pre = c .before .before .before .before .before .before .before .before .before .before .pre in
+    let at-shared-slice-known = c .before .before .before .before .before .before .before .before .before in
+    let start = at-shared-slice-known .before in
+    let the-pre = start .pre in
     let the-exits-room = c .before .before .exits-room in
     omega (arith, frames-count (the-pre .1), the-pre .0 .exits-in, the-exits-room .ensures)
 
 slice-aggregate-fill-table-3 : tie.Need-slice-aggregate-fill-table-3
 slice-aggregate-fill-table-3 c =
+    let at-rows-room = c .before .before .before .before in
+    let start = at-rows-room .before .before .before .before .before .before .before in
     let the-exits-room = c .before .before .before .exits-room in
-    let the-args = c .before .before .before .before .before .before .before .before .before .before .before .args in
-    let the-pre = c .before .before .before .before .before .before .before .before .before .before .before .pre in
+    let the-args = start .args in
+    let the-pre = start .pre in
     sym (length-take-le (the-exits-room .result) (the-args .exits .now) (omega (arith, frames-count (the-pre .1), the-pre .0 .exits-in, the-exits-room .ensures)))
 
 slice-relend-prefix-fill-table-4 : tie.Need-slice-relend-prefix-fill-table-4
 slice-relend-prefix-fill-table-4 c =
-    let the-pre = c .before .before .before .before .before .before .before .before .before .before .before .pre in
+    let at-rows-room = c .before .before .before .before in
+    let start = at-rows-room .before .before .before .before .before .before .before in
+    let the-pre = start .pre in
     omega (arith, frames-count (the-pre .1), the-pre .0 .work-in)
 
 slice-aggregate-fill-table-4 : tie.Need-slice-aggregate-fill-table-4
 slice-aggregate-fill-table-4 c =
-    let the-args = c .before .before .before .before .before .before .before .before .before .before .before .before .args in
-    let the-pre = c .before .before .before .before .before .before .before .before .before .before .before .before .pre in
+    let at-rows-room = c .before .before .before .before .before in
+    let start = at-rows-room .before .before .before .before .before .before .before in
+    let the-args = start .args in
+    let the-pre = start .pre in
     sym (length-take-le (the-args .s .rows * the-args .s .cols) (the-args .work .now) (omega (arith, frames-count (the-pre .1), the-pre .0 .work-in)))
 
 fill-table-requires : tie.Need-fill-table-requires
 fill-table-requires c κs =
-    let the-rows-room = c .before .before .before .before .before .rows-room in
-    let the-exits-room = c .before .before .before .before .exits-room in
-    let the-args = c .before .before .before .before .before .before .before .before .before .before .before .before .args in
-    let the-pre = c .before .before .before .before .before .before .before .before .before .before .before .before .pre in
+    let at-exits-room = c .before .before .before .before in
+    let at-rows-room = at-exits-room .before in
+    let start = at-rows-room .before .before .before .before .before .before .before in
+    let the-rows-room = at-rows-room .rows-room in
+    let the-exits-room = at-exits-room .exits-room in
+    let the-args = start .args in
+    let the-pre = start .pre in
     rw (the-rows-room .ensures, the-exits-room .ensures) (sized-parts (the-args .map .now) (the-args .rows .now) (the-args .exits .now) (the-args .work .now) _ (frames-count (the-pre .1)) (the-pre .0), the-pre .1)
 
 same-length : tie.Need-same-length
@@ -96,10 +109,14 @@ same-length-4 c = search needs
 
 returns : tie.Need-returns
 returns c =
-    let the-rows-room = c .before .before .before .before .before .before .before .before .before .before .before .before .before .before .rows-room in
-    let the-exits-room = c .before .before .before .before .before .before .before .before .before .before .before .before .before .exits-room in
-    let the-pre = c .before .before .before .before .before .before .before .before .before .before .before .before .before .before .before .before .before .before .before .before .before .pre in
-    let the-fill-table = c .before .before .before .before .before .before .before .before .fill-table in
+    let at-fill-table = c .before .before .before .before .before .before .before .before in
+    let at-exits-room = at-fill-table .before .before .before .before .before in
+    let at-rows-room = at-exits-room .before in
+    let start = at-rows-room .before .before .before .before .before .before .before in
+    let the-rows-room = at-rows-room .rows-room in
+    let the-exits-room = at-exits-room .exits-room in
+    let the-pre = start .pre in
+    let the-fill-table = at-fill-table .fill-table in
     rw (the-rows-room .ensures, the-exits-room .ensures) (written _ (frames-count (the-pre .1)) (the-fill-table .ensures))
 
 pub write-table-spec : {M : Type 1} → statement M

@@ -17,8 +17,10 @@ number-regions-requires c κs =
 
 region-rows-requires : tie.Need-region-rows-requires
 region-rows-requires c κs =
-    let the-pre = c .before .before .before .before .before .before .before .before .before .before .before .before .before .before .pre in
-    let the-number-regions = c .before .before .before .before .before .before .number-regions in
+    let at-number-regions = c .before .before .before .before .before .before in
+    let start = at-number-regions .before .before .before .before .before .before .before .before in
+    let the-pre = start .pre in
+    let the-number-regions = at-number-regions .number-regions in
     let e = frames-count (the-pre .1) in
     (the-pre .1, (the-number-regions .ensures .0, omega (arith, e, the-pre .0 .rows-long)))
 
@@ -33,8 +35,10 @@ same-length-3 c = search needs
 
 returns : tie.Need-returns
 returns c =
-    let the-pre = c .before .before .before .before .before .before .before .before .before .before .before .before .before .before .before .before .before .pre in
-    let the-number-regions = c .before .before .before .before .before .before .before .before .before .number-regions in
+    let at-number-regions = c .before .before .before .before .before .before .before .before .before in
+    let start = at-number-regions .before .before .before .before .before .before .before .before in
+    let the-pre = start .pre in
+    let the-number-regions = at-number-regions .number-regions in
     let the-region-rows = c .before .before .region-rows in
     record {
       sound = the-pre .0 .sound;

@@ -14,23 +14,35 @@ begin-requires c κs = search needs
 
 leave-by-requires : tie.Need-leave-by-requires
 leave-by-requires c κs =
-    let the-begin = c .before .before .before .before .before .before .before .before .begin in
-    let the-pre = c .before .before .before .before .before .before .before .before .before .before .before .before .before .before .before .before .before .before .pre in
+    let at-begin = c .before .before .before .before .before .before .before .before in
+    let at-shared-slice-known = at-begin .before .before .before .before .before .before .before .before .before in
+    let start = at-shared-slice-known .before in
+    let the-begin = at-begin .begin in
+    let the-pre = start .pre in
     rw (the-pre .1 .rows-are, the-pre .1 .cols-are) (mapped (the-begin .ensures) _ (the-pre .0 .exits-long))
 
 search-requires : tie.Need-search-requires
 search-requires c κs =
-    let the-begin = c .before .before .before .before .before .before .before .before .before .before .before .before .before .before .before .begin in
-    let the-pre = c .before .before .before .before .before .before .before .before .before .before .before .before .before .before .before .before .before .before .before .before .before .before .before .before .before .pre in
-    let the-leave-by = c .before .before .before .before .before .before .leave-by in
+    let at-leave-by = c .before .before .before .before .before .before in
+    let at-begin = at-leave-by .before .before .before .before .before .before .before .before .before in
+    let at-shared-slice-known = at-begin .before .before .before .before .before .before .before .before .before in
+    let start = at-shared-slice-known .before in
+    let the-begin = at-begin .begin in
+    let the-pre = start .pre in
+    let the-leave-by = at-leave-by .leave-by in
     (ready (the-begin .ensures) (rw (the-pre .1 .rows-are, the-pre .1 .cols-are, the-pre .0 .exits-long) at (the-leave-by .ensures)) (the-leave-by .kept .1 .0 ∙ the-pre .0 .exits-long) (the-begin .kept .1 .1 .1 .1 .1 .0 ∙ the-pre .0 .work-long), the-pre .1)
 
 keep-nodes-requires : tie.Need-keep-nodes-requires
 keep-nodes-requires c κs =
-    let the-begin = c .before .before .before .before .before .before .before .before .before .before .before .before .before .before .before .before .before .before .before .before .before .before .before .before .begin in
-    let the-search = c .before .before .before .before .before .before .before .before .search in
-    let the-leave-by = c .before .before .before .before .before .before .before .before .before .before .before .before .before .before .before .leave-by in
-    let the-pre = c .before .before .before .before .before .before .before .before .before .before .before .before .before .before .before .before .before .before .before .before .before .before .before .before .before .before .before .before .before .before .before .before .before .before .pre in
+    let at-search = c .before .before .before .before .before .before .before .before in
+    let at-leave-by = at-search .before .before .before .before .before .before .before in
+    let at-begin = at-leave-by .before .before .before .before .before .before .before .before .before in
+    let at-shared-slice-known = at-begin .before .before .before .before .before .before .before .before .before in
+    let start = at-shared-slice-known .before in
+    let the-begin = at-begin .begin in
+    let the-search = at-search .search in
+    let the-leave-by = at-leave-by .leave-by in
+    let the-pre = start .pre in
     let few = map-few _ _ _ (the-begin .ensures .regions) in
     (omega (arith, the-search .kept .1 .1 .1 .0, the-begin .ensures .rows-long), (omega (arith, the-search .kept .1 .1 .1 .1 .0, the-leave-by .kept .1 .0, the-pre .0 .exits-long), omega (arith, the-pre .0 .sound .few)))
 
@@ -51,12 +63,18 @@ same-length-4 c = search needs
 
 returns : tie.Need-returns
 returns c =
-    let the-begin = c .before .before .before .before .before .before .before .before .before .before .before .before .before .before .before .before .before .before .before .before .before .before .before .before .before .before .before .before .before .before .before .before .before .begin in
-    let the-pre = c .before .before .before .before .before .before .before .before .before .before .before .before .before .before .before .before .before .before .before .before .before .before .before .before .before .before .before .before .before .before .before .before .before .before .before .before .before .before .before .before .before .before .before .pre in
-    let the-leave-by = c .before .before .before .before .before .before .before .before .before .before .before .before .before .before .before .before .before .before .before .before .before .before .before .before .leave-by in
-    let the-search = c .before .before .before .before .before .before .before .before .before .before .before .before .before .before .before .before .before .search in
-    let the-keep-nodes = c .before .before .before .before .before .before .before .before .keep-nodes in
-    let the-args = c .before .before .before .before .before .before .before .before .before .before .before .before .before .before .before .before .before .before .before .before .before .before .before .before .before .before .before .before .before .before .before .before .before .before .before .before .before .before .before .before .before .before .before .args in
+    let at-keep-nodes = c .before .before .before .before .before .before .before .before in
+    let at-search = at-keep-nodes .before .before .before .before .before .before .before .before .before in
+    let at-leave-by = at-search .before .before .before .before .before .before .before in
+    let at-begin = at-leave-by .before .before .before .before .before .before .before .before .before in
+    let at-shared-slice-known = at-begin .before .before .before .before .before .before .before .before .before in
+    let start = at-shared-slice-known .before in
+    let the-begin = at-begin .begin in
+    let the-pre = start .pre in
+    let the-leave-by = at-leave-by .leave-by in
+    let the-search = at-search .search in
+    let the-keep-nodes = at-keep-nodes .keep-nodes in
+    let the-args = start .args in
     let the-fill-u32 = c .before .before .fill-u32 in
     builds (the-begin .ensures) (rw (the-pre .1 .rows-are, the-pre .1 .cols-are, the-pre .0 .exits-long) at (the-leave-by .ensures)) (the-search .ensures) (the-keep-nodes .ensures)
     (the-keep-nodes .kept .1 .0 ∙ the-search .kept .1 .1 .1 .0 ∙ the-begin .ensures .rows-long)

@@ -30,8 +30,10 @@ keep-region-requires c κs =
 
 add-r : tie.Need-add-r Inv-loop μ-loop
 add-r c =
-    let the-loop-test = c .before .before .before .before .before .before .before .loop-test in
-    let the-pre = c .before .before .before .before .before .before .before .before .before .before .before .pre in
+    let in-loop = c .before .before .before .before .before .before .before in
+    let start = in-loop .before .before .before .before in
+    let the-loop-test = in-loop .loop-test in
+    let the-pre = start .pre in
     omega (arith, the-loop-test .taken, the-pre .1 .1)
 
 loop-less : tie.Need-loop-less Inv-loop μ-loop

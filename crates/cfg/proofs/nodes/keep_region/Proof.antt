@@ -37,11 +37,15 @@ same-length-3 c = search needs
 
 returns-2 : tie.Need-returns-2
 returns-2 c =
-    let the-row-cell = c .before .before .before .before .row-cell in
-    let the-args = c .before .before .before .before .before .before .before .before .before .before .args in
-    let the-pre = c .before .before .before .before .before .before .before .before .before .before .pre in
-    let the-is-node = c .before .before .before .before .before .before .is-node in
-    let the-if1 = c .before .before .before .before .before .if1 in
+    let at-row-cell = c .before .before .before .before in
+    let else-1 = at-row-cell .before in
+    let at-is-node = else-1 .before in
+    let start = at-is-node .before .before .before .before in
+    let the-row-cell = at-row-cell .row-cell in
+    let the-args = start .args in
+    let the-pre = start .pre in
+    let the-is-node = at-is-node .is-node in
+    let the-if1 = else-1 .if1 in
     let the-clear-exits = c .before .before .clear-exits in
     rw (the-row-cell .ensures) (keeps-none (the-args .r) (the-args .rows .now) (the-args .exits .now) _ (the-pre .0) (sym (the-is-node .ensures) ∙ the-if1 .left) (the-clear-exits .ensures))
 

@@ -45,9 +45,12 @@ visit-at-requires-3 c κs =
 
 visit-at-requires-4 : tie.Need-visit-at-requires-4
 visit-at-requires-4 c κs =
-    let the-visit-at3 = c .before .before .before .before .before .before .visit-at3 in
-    let the-pre = c .before .before .before .before .before .before .before .before .before .before .before .before .before .before .before .before .pre in
-    let the-way3 = c .before .before .before .before .before .before .before .before .before .before .way3 in
+    let at-visit-at3 = c .before .before .before .before .before .before in
+    let at-way3 = at-visit-at3 .before .before .before .before in
+    let start = at-way3 .before .before .before .before .before .before in
+    let the-visit-at3 = at-visit-at3 .visit-at3 in
+    let the-pre = start .pre in
+    let the-way3 = at-way3 .way3 in
     let v = the-visit-at3 .ensures in
     at-needs (the-pre .0) (length-after v .1 ∙ the-pre .1 .1 .1 .0) (room-after (at-needs (the-pre .0) (the-pre .1 .1 .1 .0) (the-pre .1 .1 .0) _ _ _ ((rw (the-way3 .given .1) at (the-pre .1 .0)) .0) (the-pre .1 .1 .1 .1 .cols-are) .1 .1 .1) (the-pre .1 .1 .0) v) _ _ _ ((rw (the-way3 .given .1) at (the-pre .1 .0)) .1) (the-pre .1 .1 .1 .1 .cols-are)
 
@@ -62,9 +65,12 @@ same-length-2 c = search needs
 
 returns-2 : tie.Need-returns-2
 returns-2 c =
-    let the-pre = c .before .before .before .before .before .before .before .before .before .before .before .before .before .before .pre in
-    let the-way = c .before .before .before .before .before .before .before .before .way in
-    let the-visit-at = c .before .before .before .before .visit-at in
+    let at-visit-at = c .before .before .before .before in
+    let at-way = at-visit-at .before .before .before .before in
+    let start = at-way .before .before .before .before .before .before in
+    let the-pre = start .pre in
+    let the-way = at-way .way in
+    let the-visit-at = at-visit-at .visit-at in
     rw (the-way .given .1) (step (rw (the-pre .1 .1 .1 .1 .cols-are) at (the-visit-at .ensures)))
 
 same-length-3 : tie.Need-same-length-3
@@ -75,9 +81,12 @@ same-length-4 c = search needs
 
 returns-3 : tie.Need-returns-3
 returns-3 c =
-    let the-pre = c .before .before .before .before .before .before .before .before .before .before .before .before .before .before .pre in
-    let the-way2 = c .before .before .before .before .before .before .before .before .way2 in
-    let the-visit-at2 = c .before .before .before .before .visit-at2 in
+    let at-visit-at2 = c .before .before .before .before in
+    let at-way2 = at-visit-at2 .before .before .before .before in
+    let start = at-way2 .before .before .before .before .before .before in
+    let the-pre = start .pre in
+    let the-way2 = at-way2 .way2 in
+    let the-visit-at2 = at-visit-at2 .visit-at2 in
     rw (the-way2 .given .1) (astray (rw (the-pre .1 .1 .1 .1 .cols-are) at (the-visit-at2 .ensures)))
 
 same-length-5 : tie.Need-same-length-5
@@ -88,10 +97,14 @@ same-length-6 c = search needs
 
 returns-4 : tie.Need-returns-4
 returns-4 c =
-    let the-pre = c .before .before .before .before .before .before .before .before .before .before .before .before .before .before .before .before .before .before .before .before .before .pre in
-    let the-way3 = c .before .before .before .before .before .before .before .before .before .before .before .before .before .before .before .way3 in
-    let the-visit-at3 = c .before .before .before .before .before .before .before .before .before .before .before .visit-at3 in
-    let the-visit-at4 = c .before .before .before .before .visit-at4 in
+    let at-visit-at4 = c .before .before .before .before in
+    let at-visit-at3 = at-visit-at4 .before .before .before .before .before .before .before in
+    let at-way3 = at-visit-at3 .before .before .before .before in
+    let start = at-way3 .before .before .before .before .before .before in
+    let the-pre = start .pre in
+    let the-way3 = at-way3 .way3 in
+    let the-visit-at3 = at-visit-at3 .visit-at3 in
+    let the-visit-at4 = at-visit-at4 .visit-at4 in
     rw (the-way3 .given .1) (glide (rw (the-pre .1 .1 .1 .1 .cols-are) at (the-visit-at3 .ensures)) (rw (the-pre .1 .1 .1 .1 .cols-are) at (the-visit-at4 .ensures)))
 
 pub queue-way-spec : {M : Type 1} → statement M

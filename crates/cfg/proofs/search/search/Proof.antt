@@ -22,8 +22,10 @@ visit-requires c κs =
 
 loop-holds : tie.Need-loop-holds Inv-loop μ-loop
 loop-holds c =
-    let the-pre = c .before .before .before .before .before .before .before .before .before .before .before .before .pre in
-    let the-visit = c .before .before .before .before .visit in
+    let at-visit = c .before .before .before .before in
+    let start = at-visit .before .before .before .before .before .before .before .before in
+    let the-pre = start .pre in
+    let the-visit = at-visit .visit in
     search-start (the-pre .0) (the-visit .ensures)
 
 mul-wide : tie.Need-mul-wide Inv-loop μ-loop
@@ -39,36 +41,54 @@ wide-requires c κs = tt
 
 try-states-requires : tie.Need-try-states-requires Inv-loop μ-loop
 try-states-requires c κs =
+    let in-loop = c .before .before .before .before .before in
+    let at-loop = in-loop .before in
+    let at-visit = at-loop .before .before .before .before .before in
+    let start = at-visit .before .before .before .before .before .before .before .before in
     let the-wide = c .before .before .before .wide in
-    let the-pre = c .before .before .before .before .before .before .before .before .before .before .before .before .before .before .before .before .before .before .before .pre in
-    let the-visit = c .before .before .before .before .before .before .before .before .before .before .before .visit in
-    let the-loop = c .before .before .before .before .before .before .loop in
-    let the-loop-test = c .before .before .before .before .before .loop-test in
+    let the-pre = start .pre in
+    let the-visit = at-visit .visit in
+    let the-loop = at-loop .loop in
+    let the-loop-test = in-loop .loop-test in
     (rw (the-wide .ensures) (search-taken (the-pre .0) (the-visit .ensures) (the-loop .inv) (the-loop-test .taken)), (the-loop .inv .queue, the-pre .1))
 
 add-head : tie.Need-add-head Inv-loop μ-loop
 add-head c =
-    let the-loop-test = c .before .before .before .before .before .before .before .before .before .before .before .before .loop-test in
-    let the-loop = c .before .before .before .before .before .before .before .before .before .before .before .before .before .loop in
+    let at-try-states = c .before .before .before .before .before .before in
+    let in-loop = at-try-states .before .before .before .before .before .before in
+    let at-loop = in-loop .before in
+    let the-loop-test = in-loop .loop-test in
+    let the-loop = at-loop .loop in
     omega (arith, the-loop-test .taken, the-loop .inv .queue .room .free, the-loop .inv .queue .room .few)
 
 loop-less : tie.Need-loop-less Inv-loop μ-loop
 loop-less c =
-    let the-loop = c .before .before .before .before .before .before .before .before .before .before .before .before .before .loop in
-    let the-loop-test = c .before .before .before .before .before .before .before .before .before .before .before .before .loop-test in
-    let the-pre = c .before .before .before .before .before .before .before .before .before .before .before .before .before .before .before .before .before .before .before .before .before .before .before .before .before .before .pre in
-    let the-visit = c .before .before .before .before .before .before .before .before .before .before .before .before .before .before .before .before .before .before .visit in
+    let at-try-states = c .before .before .before .before .before .before in
+    let in-loop = at-try-states .before .before .before .before .before .before in
+    let at-loop = in-loop .before in
+    let at-visit = at-loop .before .before .before .before .before in
+    let start = at-visit .before .before .before .before .before .before .before .before in
+    let the-loop = at-loop .loop in
+    let the-loop-test = in-loop .loop-test in
+    let the-pre = start .pre in
+    let the-visit = at-visit .visit in
     let l = the-loop .inv in
     omega (arith, the-loop-test .taken, l .queue .room .free, work-long (the-pre .0) (the-visit .ensures) l)
 
 loop-again : tie.Need-loop-again Inv-loop μ-loop
 loop-again c =
-    let the-pre = c .before .before .before .before .before .before .before .before .before .before .before .before .before .before .before .before .before .before .before .before .before .before .before .before .before .before .pre in
-    let the-visit = c .before .before .before .before .before .before .before .before .before .before .before .before .before .before .before .before .before .before .visit in
-    let the-loop = c .before .before .before .before .before .before .before .before .before .before .before .before .before .loop in
-    let the-loop-test = c .before .before .before .before .before .before .before .before .before .before .before .before .loop-test in
-    let the-wide = c .before .before .before .before .before .before .before .before .before .before .wide in
-    let the-try-states = c .before .before .before .before .before .before .try-states in
+    let at-try-states = c .before .before .before .before .before .before in
+    let at-wide = at-try-states .before .before .before .before in
+    let in-loop = at-wide .before .before in
+    let at-loop = in-loop .before in
+    let at-visit = at-loop .before .before .before .before .before in
+    let start = at-visit .before .before .before .before .before .before .before .before in
+    let the-pre = start .pre in
+    let the-visit = at-visit .visit in
+    let the-loop = at-loop .loop in
+    let the-loop-test = in-loop .loop-test in
+    let the-wide = at-wide .wide in
+    let the-try-states = at-try-states .try-states in
     search-turn (the-pre .0) (the-visit .ensures) (the-loop .inv) (the-loop-test .taken) (rw (the-wide .ensures) at (the-try-states .ensures))
 
 same-length : tie.Need-same-length Inv-loop μ-loop
@@ -86,8 +106,10 @@ same-length-3 c =
 
 returns : tie.Need-returns Inv-loop μ-loop
 returns c =
-    let the-pre = c .before .before .before .before .before .before .before .before .before .before .before .before .before .before .pre in
-    let the-visit = c .before .before .before .before .before .before .visit in
+    let at-visit = c .before .before .before .before .before .before in
+    let start = at-visit .before .before .before .before .before .before .before .before in
+    let the-pre = start .pre in
+    let the-visit = at-visit .visit in
     search-end (the-pre .0) (the-visit .ensures) (c .before .loop .inv) (c .loop-test .left)
 
 pub search-spec : {M : Type 1} → statement M

@@ -42,37 +42,49 @@ of-number-requires c κs = search needs
 
 attempt-from-requires : tie.Need-attempt-from-requires
 attempt-from-requires c κs =
-    let the-exit-cell = c .before .before .before .before .exit-cell in
-    let the-pre = c .before .before .before .before .before .before .before .before .before .before .pre in
-    let the-args = c .before .before .before .before .before .before .before .before .before .before .args in
+    let at-exit-cell = c .before .before .before .before in
+    let start = at-exit-cell .before .before .before .before .before .before in
+    let the-exit-cell = at-exit-cell .exit-cell in
+    let the-pre = start .pre in
+    let the-args = start .args in
     let the-wide = c .before .before .wide in
     (the-pre .1 .1 .1 .1 .1 .1 .1 .1, leave-inside (the-args .state) (the-pre .0) (the-pre .1 .1 .1 .0) (rw (the-exit-cell .ensures) at (the-wide .ensures)) (the-pre .1 .1 .1 .1 .1 .1 .1 .1 .cols-are), rw (c .of-number .ensures) (valid-number (the-args .state) (the-pre .1 .1 .1 .1 .1 .1 .1 .0)))
 
 way-number-requires : tie.Need-way-number-requires
 way-number-requires c κs =
-    let the-exit-cell = c .before .before .before .before .before .exit-cell in
-    let the-pre = c .before .before .before .before .before .before .before .before .before .before .before .pre in
-    let the-args = c .before .before .before .before .before .before .before .before .before .before .before .args in
+    let at-exit-cell = c .before .before .before .before .before in
+    let start = at-exit-cell .before .before .before .before .before .before in
+    let the-exit-cell = at-exit-cell .exit-cell in
+    let the-pre = start .pre in
+    let the-args = start .args in
     let the-wide = c .before .before .before .wide in
     (the-pre .0, (placed (leave-inside (the-args .state) (the-pre .0) (the-pre .1 .1 .1 .0) (rw (the-exit-cell .ensures) at (the-wide .ensures)) (the-pre .1 .1 .1 .1 .1 .1 .1 .1 .cols-are)) (rw (c .before .of-number .ensures) (valid-number (the-args .state) (the-pre .1 .1 .1 .1 .1 .1 .1 .0))) (c .attempt-from .ensures), (the-pre .1 .1 .1 .1 .1 .1 .1 .0, the-pre .1 .1 .1 .1 .1 .1 .1 .1)))
 
 mul-exits : tie.Need-mul-exits
 mul-exits c =
-    let the-pre = c .before .before .before .before .before .before .before .before .before .before .before .before .pre in
+    let at-exit-cell = c .before .before .before .before .before .before in
+    let start = at-exit-cell .before .before .before .before .before .before in
+    let the-pre = start .pre in
     record { fits = omega (arith, the-pre .1 .1 .1 .1 .1 .1 .0, the-pre .1 .1 .1 .1 .1 .1 .1 .0) }
 
 slice-write-exits : tie.Need-slice-write-exits
 slice-write-exits c =
-    let the-pre = c .before .before .before .before .before .before .before .before .before .before .before .before .pre in
+    let at-exit-cell = c .before .before .before .before .before .before in
+    let start = at-exit-cell .before .before .before .before .before .before in
+    let the-pre = start .pre in
     omega (arith, the-pre .1 .1 .1 .1 .1 .0, the-pre .1 .1 .1 .1 .1 .1 .1 .0)
 
 queue-way-requires : tie.Need-queue-way-requires
 queue-way-requires c κs =
-    let the-exit-cell = c .before .before .before .before .before .before .before .before .exit-cell in
-    let the-pre = c .before .before .before .before .before .before .before .before .before .before .before .before .before .before .pre in
-    let the-args = c .before .before .before .before .before .before .before .before .before .before .before .before .before .before .args in
-    let the-wide = c .before .before .before .before .before .before .wide in
-    let the-of-number = c .before .before .before .before .of-number in
+    let at-of-number = c .before .before .before .before in
+    let at-wide = at-of-number .before .before in
+    let at-exit-cell = at-wide .before .before in
+    let start = at-exit-cell .before .before .before .before .before .before in
+    let the-exit-cell = at-exit-cell .exit-cell in
+    let the-pre = start .pre in
+    let the-args = start .args in
+    let the-wide = at-wide .wide in
+    let the-of-number = at-of-number .of-number in
     let the-attempt-from = c .before .before .before .attempt-from in
     (the-pre .0, (placed (leave-inside (the-args .state) (the-pre .0) (the-pre .1 .1 .1 .0) (rw (the-exit-cell .ensures) at (the-wide .ensures)) (the-pre .1 .1 .1 .1 .1 .1 .1 .1 .cols-are)) (rw (the-of-number .ensures) (valid-number (the-args .state) (the-pre .1 .1 .1 .1 .1 .1 .1 .0))) (the-attempt-from .ensures), (the-pre .1 .1 .0 .room, (the-pre .1 .1 .1 .1 .0, the-pre .1 .1 .1 .1 .1 .1 .1 .1))))
 
@@ -87,15 +99,23 @@ same-length-3 c = search needs
 
 returns : tie.Need-returns
 returns c =
-    let the-exit-cell = c .before .before .before .before .before .before .before .before .before .before .before .before .before .exit-cell in
-    let the-args = c .before .before .before .before .before .before .before .before .before .before .before .before .before .before .before .before .before .before .before .args in
-    let the-pre = c .before .before .before .before .before .before .before .before .before .before .before .before .before .before .before .before .before .before .before .pre in
-    let the-wide = c .before .before .before .before .before .before .before .before .before .before .before .wide in
-    let the-of-number = c .before .before .before .before .before .before .before .before .before .of-number in
-    let the-attempt-from = c .before .before .before .before .before .before .before .before .attempt-from in
-    let the-colour-at = c .before .before .before .before .before .before .before .before .before .before .colour-at in
-    let the-way-number = c .before .before .before .before .before .before .before .way-number in
-    let the-queue-way = c .before .before .before .before .queue-way in
+    let at-queue-way = c .before .before .before .before in
+    let at-way-number = at-queue-way .before .before .before in
+    let at-attempt-from = at-way-number .before in
+    let at-of-number = at-attempt-from .before in
+    let at-colour-at = at-of-number .before in
+    let at-wide = at-colour-at .before in
+    let at-exit-cell = at-wide .before .before in
+    let start = at-exit-cell .before .before .before .before .before .before in
+    let the-exit-cell = at-exit-cell .exit-cell in
+    let the-args = start .args in
+    let the-pre = start .pre in
+    let the-wide = at-wide .wide in
+    let the-of-number = at-of-number .of-number in
+    let the-attempt-from = at-attempt-from .attempt-from in
+    let the-colour-at = at-colour-at .colour-at in
+    let the-way-number = at-way-number .way-number in
+    let the-queue-way = at-queue-way .queue-way in
     rw (the-exit-cell .ensures) (tries-read (the-args .state) (the-pre .0) (the-pre .1 .1 .1 .0) (rw (the-exit-cell .ensures) at (the-wide .ensures)) (the-pre .1 .1 .1 .1 .1 .1 .1 .1 .cols-are) (the-pre .1 .0) (the-pre .1 .1 .0) (the-pre .1 .1 .1 .1 .0) (the-pre .1 .1 .1 .1 .1 .1 .1 .0) (the-of-number .ensures) (the-attempt-from .ensures) (placed (leave-inside (the-args .state) (the-pre .0) (the-pre .1 .1 .1 .0) (rw (the-exit-cell .ensures) at (the-wide .ensures)) (the-pre .1 .1 .1 .1 .1 .1 .1 .1 .cols-are)) (rw (the-of-number .ensures) (valid-number (the-args .state) (the-pre .1 .1 .1 .1 .1 .1 .1 .0))) (the-attempt-from .ensures)) (the-colour-at .ensures) (the-way-number .ensures) (the-queue-way .ensures))
 
 pub try-state-spec : {M : Type 1} → statement M

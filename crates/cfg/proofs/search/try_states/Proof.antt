@@ -23,27 +23,37 @@ loop-holds c =
 
 try-state-requires : tie.Need-try-state-requires Inv-loop μ-loop
 try-state-requires c κs =
-    let the-pre = c .before .before .before .before .before .before .before .before .before .before .pre in
-    let the-loop = c .before .before .before .before .loop in
+    let at-loop = c .before .before .before .before in
+    let start = at-loop .before .before .before .before .before .before in
+    let the-pre = start .pre in
+    let the-loop = at-loop .loop in
     let the-loop-test = c .before .before .before .loop-test in
     next-needs (the-pre .0) (the-loop .inv .1) (the-loop-test .taken) (the-pre .1 .1)
 
 add-state : tie.Need-add-state Inv-loop μ-loop
 add-state c =
-    let the-loop-test = c .before .before .before .before .before .before .before .before .before .before .loop-test in
+    let at-try-state = c .before .before .before .before .before .before in
+    let in-loop = at-try-state .before .before .before .before in
+    let the-loop-test = in-loop .loop-test in
     omega (arith, the-loop-test .taken)
 
 loop-less : tie.Need-loop-less Inv-loop μ-loop
 loop-less c =
-    let the-loop-test = c .before .before .before .before .before .before .before .before .before .before .loop-test in
+    let at-try-state = c .before .before .before .before .before .before in
+    let in-loop = at-try-state .before .before .before .before in
+    let the-loop-test = in-loop .loop-test in
     omega (arith, the-loop-test .taken)
 
 loop-again : tie.Need-loop-again Inv-loop μ-loop
 loop-again c =
-    let the-loop-test = c .before .before .before .before .before .before .before .before .before .before .loop-test in
-    let the-loop = c .before .before .before .before .before .before .before .before .before .before .before .loop in
-    let the-try-state = c .before .before .before .before .before .before .try-state in
-    let the-pre = c .before .before .before .before .before .before .before .before .before .before .before .before .before .before .before .before .before .pre in
+    let at-try-state = c .before .before .before .before .before .before in
+    let in-loop = at-try-state .before .before .before .before in
+    let at-loop = in-loop .before in
+    let start = at-loop .before .before .before .before .before .before in
+    let the-loop-test = in-loop .loop-test in
+    let the-loop = at-loop .loop in
+    let the-try-state = at-try-state .try-state in
+    let the-pre = start .pre in
     (omega (arith, the-loop-test .taken), several-more (the-loop .inv .1) (the-try-state .ensures) (the-loop-test .taken) (omega (arith, the-loop .inv .1 .exits-length, the-pre .0 .exits-long, the-loop-test .taken)))
 
 same-length : tie.Need-same-length Inv-loop μ-loop

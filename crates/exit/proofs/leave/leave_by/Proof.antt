@@ -25,9 +25,11 @@ same-length c = search needs
 
 returns : tie.Need-returns
 returns c =
-    let a = c .before .before .before .before .before .before .before .before .before .before .args in
+    let at-fill-u32 = c .before .before .before .before .before .before in
+    let start = at-fill-u32 .before .before .before .before in
+    let a = start .args in
     subst (λ (x : List ℕ). AllKept (now (a .map)) x (c .before .before .leave-states .last .1 .0) (a .rows) (a .cols) 8)
-    (c .before .before .before .before .before .before .fill-u32 .ensures ∙ all-zero (now (a .best)))
+    (at-fill-u32 .fill-u32 .ensures ∙ all-zero (now (a .best)))
     (c .before .before .leave-states .ensures)
 
 pub leave-by-spec : {M : Type 1} → statement M

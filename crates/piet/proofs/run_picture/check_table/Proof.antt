@@ -1,7 +1,6 @@
 -- `piet::run_picture::check_table` meets its contract: each return says which rows of building's table fail and which
 -- holds; 1, 2 and 8 fail, since classifying refuses nothing.
 -- Assumes nothing.
-use mathlib.Core.Bool.{Bool}
 use mathlib.Core.Path.{_≡_, _∙_, sym}
 use Prim.Native.Nat.{ℕ, _*_, _<_, _≤_}
 use native.Mathlib.Omega.{arith}
@@ -9,8 +8,7 @@ use lib.ListN.{length}
 use Rattle.base.proofs.Sides.{side}
 use Rattle.picture.specs.Picture.{Picture, picture}
 use Rattle.colour.specs.Classify.{coloursUnder}
-use Rattle.cfg.specs.Build.{short}
-use Rattle.cfg.proofs.Refusing.{on-codel, on-grid, on-white, on-room, on-none, area-pos}
+use Rattle.cfg.proofs.Refusing.{on-codel, on-grid, on-white, on-room, on-none, area-pos, few-of, many-of, short-of}
 use Rattle.piet.proofs.Seeing.{length-under, legal-under}
 use borrow.Author.Needs.{needs}
 use Rattle.piet.proofs.run_picture.check_table.Statement.{statement}
@@ -22,17 +20,8 @@ drawnFrom c = picture (c .args .height) (c .args .width) (c .args .codel) (colou
 one-each : (c : tie.Start) → length (coloursUnder (c .args .pixels .now) (c .args .setting)) ≡ c .args .height * c .args .width
 one-each c = length-under (c .args .pixels .now) (c .args .setting) (c .args .height * c .args .width) (c .pre .1)
 
-few-of : {x y : ℕ} → x ≡ y → x ≤ 65536 → y ≤ 65536
-few-of e h = omega arith
-
-many-of : {x y : ℕ} → x ≡ y → 65536 < x → 65536 < y
-many-of e h = omega arith
-
 other-of : {x y : ℕ} → x ≡ y → (x ≡ 19 → ⊥) → y ≡ 19 → ⊥
 other-of e h k = h (e ∙ k)
-
-short-of : (m r e w : ℕ) {x y : ℕ} {b v : Bool} → x ≡ y → b ≡ short x m r e w → b ≡ v → short y m r e w ≡ v
-short-of m r e w q h k = (rw q at (sym h)) ∙ k
 
 wrong-side-requires : tie.Need-wrong-side-requires
 wrong-side-requires c κs = search needs

@@ -43,12 +43,18 @@ loop-less c = omega arith
 
 loop-again : tie.Need-loop-again Inv-loop μ-loop
 loop-again c =
-    let the-loop-test = c .before .before .before .before .before .before .before .before .loop-test in
-    let the-loop = c .before .before .before .before .before .before .before .before .before .loop in
-    let the-neighbour = c .before .before .before .before .before .before .before .neighbour in
-    let the-pre = c .before .before .before .before .before .before .before .before .before .before .before .before .before .before .pre in
-    let the-codel-colour = c .before .before .before .before .before .before .before .before .before .before .codel-colour in
-    let the-visit = c .before .before .before .before .visit in (
+    let at-visit = c .before .before .before .before in
+    let at-neighbour = at-visit .before .before .before in
+    let in-loop = at-neighbour .before in
+    let at-loop = in-loop .before in
+    let at-codel-colour = at-loop .before in
+    let start = at-codel-colour .before .before .before .before in
+    let the-loop-test = in-loop .loop-test in
+    let the-loop = at-loop .loop in
+    let the-neighbour = at-neighbour .neighbour in
+    let the-pre = start .pre in
+    let the-codel-colour = at-codel-colour .codel-colour in
+    let the-visit = at-visit .visit in (
       omega (arith, the-loop-test .taken),
       spread-more (the-loop .inv .1) (the-neighbour .ensures) (omega (arith, the-pre .1 .1 .1)) (the-pre .1 .1 .0) (the-pre .0 .map-room) (the-pre .0 .work-room)
           (the-codel-colour .ensures) (the-visit .ensures),

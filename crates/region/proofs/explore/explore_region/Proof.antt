@@ -82,9 +82,12 @@ expand-requires c κs =
 
 add-head : tie.Need-add-head Inv-loop μ-loop
 add-head c =
-    let the-loop-test = c .before .before .before .before .before .before .before .before .loop-test in
-    let the-loop = c .before .before .before .before .before .before .before .before .before .loop in
-    let the-pre = c .before .before .before .before .before .before .before .before .before .before .before .before .before .pre in
+    let in-loop = c .before .before .before .before .before .before .before .before in
+    let at-loop = in-loop .before in
+    let start = at-loop .before .before .before .before in
+    let the-loop-test = in-loop .loop-test in
+    let the-loop = at-loop .loop in
+    let the-pre = start .pre in
     omega (arith, the-loop-test .taken, the-loop .inv .room, room-few (the-pre .0))
 
 loop-less : tie.Need-loop-less Inv-loop μ-loop
@@ -95,10 +98,14 @@ loop-less c =
 
 loop-again : tie.Need-loop-again Inv-loop μ-loop
 loop-again c =
-    let the-Start = c .before .before .before .before .before .before .before .before .before .before .before .before .before in
-    let the-loop = c .before .before .before .before .before .before .before .before .before .loop in
-    let the-loop-test = c .before .before .before .before .before .before .before .before .loop-test in
-    let the-expand = c .before .before .before .before .expand in
+    let at-expand = c .before .before .before .before in
+    let in-loop = at-expand .before .before .before .before in
+    let at-loop = in-loop .before in
+    let start = at-loop .before .before .before .before in
+    let the-Start = start in
+    let the-loop = at-loop .loop in
+    let the-loop-test = in-loop .loop-test in
+    let the-expand = at-expand .expand in
     flood-turn (seeded the-Start) (the-loop .inv) (the-loop-test .taken) (the-expand .ensures)
 
 same-length : tie.Need-same-length Inv-loop μ-loop

@@ -21,9 +21,11 @@ fill-u32-requires c κs = search needs
 
 scan-requires : tie.Need-scan-requires
 scan-requires c κs =
-    let the-pre = c .before .before .before .before .before .before .before .before .before .before .pre in
-    let the-fill-u32 = c .before .before .before .before .fill-u32 in
-    let the-args = c .before .before .before .before .before .before .before .before .before .before .args in (
+    let at-fill-u32 = c .before .before .before .before in
+    let start = at-fill-u32 .before .before .before .before .before .before in
+    let the-pre = start .pre in
+    let the-fill-u32 = at-fill-u32 .fill-u32 in
+    let the-args = start .args in (
       room-kept the-pre (the-fill-u32 .kept .0) refl,
       part-none (filled-at (the-args .map .now) (the-args .s .rows * the-args .s .cols) unnumbered (the-fill-u32 .ensures)),
     )
@@ -39,10 +41,13 @@ same-length-2 c = search needs
 
 returns : tie.Need-returns
 returns c =
-    let the-args = c .before .before .before .before .before .before .before .before .before .before .before .before .before .before .before .before .before .before .before .args in
-    let the-scan = c .before .before .before .before .before .before .before .before .scan in
-    let the-fill-u32 = c .before .before .before .before .before .before .before .before .before .before .before .before .before .fill-u32 in
-    let the-pre = c .before .before .before .before .before .before .before .before .before .before .before .before .before .before .before .before .before .before .before .pre in
+    let at-scan = c .before .before .before .before .before .before .before .before in
+    let at-fill-u32 = at-scan .before .before .before .before .before in
+    let start = at-fill-u32 .before .before .before .before .before .before in
+    let the-args = start .args in
+    let the-scan = at-scan .scan in
+    let the-fill-u32 = at-fill-u32 .fill-u32 in
+    let the-pre = start .pre in
     let the-fill-u322 = c .before .before .fill-u322 in
     let n = the-args .s .rows * the-args .s .cols in (
       part-whole (the-scan .ensures .part) (omega (arith, the-scan .kept .1 .1 .0, the-fill-u32 .kept .0, the-pre .map-room)),

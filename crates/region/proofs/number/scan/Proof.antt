@@ -35,8 +35,10 @@ claim-requires c κs =
 
 add-i : tie.Need-add-i Inv-loop μ-loop
 add-i c =
-    let the-loop-test = c .before .before .before .before .before .before .before .loop-test in
-    let the-pre = c .before .before .before .before .before .before .before .before .before .before .before .before .before .pre in
+    let in-loop = c .before .before .before .before .before .before .before in
+    let start = in-loop .before .before .before .before .before .before in
+    let the-loop-test = in-loop .loop-test in
+    let the-pre = start .pre in
     omega (arith, the-loop-test .taken, room-few (the-pre .0))
 
 loop-less : tie.Need-loop-less Inv-loop μ-loop

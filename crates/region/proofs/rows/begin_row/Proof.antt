@@ -46,32 +46,44 @@ set-field-requires c κs =
 
 set-field-requires-2 : tie.Need-set-field-requires-2
 set-field-requires-2 c κs =
-    let the-pre = c .before .before .before .before .before .before .before .before .before .before .pre in
+    let at-codel-colour = c .before .before .before .before .before .before .before in
+    let start = at-codel-colour .before .before .before in
+    let the-pre = start .pre in
     let the-set-field = c .before .before .before .set-field in
     ((omega (arith, frames-few (the-pre .0)), omega arith), omega (arith, the-set-field .kept .0))
 
 cast-set-field-2 : tie.Need-cast-set-field-2
 cast-set-field-2 c =
-    let the-Start = c .before .before .before .before .before .before .before .before .before .before .before .before .before .before in
+    let at-set-field = c .before .before .before .before .before .before .before in
+    let start = at-set-field .before .before .before .before .before .before .before in
+    let the-Start = start in
     omega (arith, pixel the-Start)
 
 set-field-requires-3 : tie.Need-set-field-requires-3
 set-field-requires-3 c κs =
-    let the-pre = c .before .before .before .before .before .before .before .before .before .before .before .before .before .before .pre in
-    let the-set-field = c .before .before .before .before .before .before .before .set-field in
+    let at-set-field = c .before .before .before .before .before .before .before in
+    let start = at-set-field .before .before .before .before .before .before .before in
+    let the-pre = start .pre in
+    let the-set-field = at-set-field .set-field in
     let the-set-field2 = c .before .before .before .set-field2 in
     ((omega (arith, frames-few (the-pre .0)), omega arith), omega (arith, the-set-field .kept .0, the-set-field2 .kept .0))
 
 cast-set-field-3 : tie.Need-cast-set-field-3
 cast-set-field-3 c =
-    let the-Start = c .before .before .before .before .before .before .before .before .before .before .before .before .before .before .before .before .before .before in
+    let at-set-field2 = c .before .before .before .before .before .before .before in
+    let at-codel-colour = at-set-field2 .before .before .before .before .before .before .before .before in
+    let start = at-codel-colour .before .before .before in
+    let the-Start = start in
     omega (arith, pixel the-Start)
 
 set-field-requires-4 : tie.Need-set-field-requires-4
 set-field-requires-4 c κs =
-    let the-pre = c .before .before .before .before .before .before .before .before .before .before .before .before .before .before .before .before .before .before .pre in
-    let the-set-field = c .before .before .before .before .before .before .before .before .before .before .before .set-field in
-    let the-set-field2 = c .before .before .before .before .before .before .before .set-field2 in
+    let at-set-field2 = c .before .before .before .before .before .before .before in
+    let at-set-field = at-set-field2 .before .before .before .before in
+    let start = at-set-field .before .before .before .before .before .before .before in
+    let the-pre = start .pre in
+    let the-set-field = at-set-field .set-field in
+    let the-set-field2 = at-set-field2 .set-field2 in
     let the-set-field3 = c .before .before .before .set-field3 in
     ((omega (arith, frames-few (the-pre .0)), omega arith), omega (arith, the-set-field .kept .0, the-set-field2 .kept .0, the-set-field3 .kept .0))
 

@@ -59,9 +59,12 @@ same-length-2 c = search needs
 
 returns-2 : tie.Need-returns-2
 returns-2 c =
-    let the-args = c .before .before .before .before .before .before .before .before .before .before .before .args in
-    let the-row-cell = c .before .before .before .before .before .before .row-cell in
-    let the-if1 = c .before .before .before .before .if1 in
+    let else-1 = c .before .before .before .before in
+    let at-row-cell = else-1 .before .before in
+    let start = at-row-cell .before .before .before .before .before in
+    let the-args = start .args in
+    let the-row-cell = at-row-cell .row-cell in
+    let the-if1 = else-1 .if1 in
     let the-begin-row = c .before .before .begin-row in
     started-at (the-args .rows .now) (the-row-cell .ensures) (the-if1 .left) (the-begin-row .ensures)
 

@@ -39,15 +39,20 @@ loop-holds c =
 
 note-requires : tie.Need-note-requires Inv-loop μ-loop
 note-requires c κs =
-    let the-pre = c .before .before .before .before .before .before .before .before .before .before .before .before .pre in
-    let the-fill-u32 = c .before .before .before .before .before .fill-u32 in
+    let at-fill-u32 = c .before .before .before .before .before in
+    let start = at-fill-u32 .before .before .before .before .before .before .before in
+    let the-pre = start .pre in
+    let the-fill-u32 = at-fill-u32 .fill-u32 in
     let the-loop = c .before .before .loop in
     (the-pre .0, (c .before .loop-test .taken, note-needs (the-pre .1 .0) (omega (arith, the-fill-u32 .kept .0, the-pre .1 .1)) (the-loop .inv) (c .before .loop-test .taken)))
 
 add-i : tie.Need-add-i Inv-loop μ-loop
 add-i c =
-    let the-loop-test = c .before .before .before .before .loop-test in
-    let the-pre = c .before .before .before .before .before .before .before .before .before .before .before .before .before .before .before .pre in
+    let in-loop = c .before .before .before .before in
+    let at-rows-room = in-loop .before .before .before .before .before .before in
+    let start = at-rows-room .before .before .before .before .before in
+    let the-loop-test = in-loop .loop-test in
+    let the-pre = start .pre in
     omega (arith, the-loop-test .taken, frames-few (the-pre .0))
 
 loop-less : tie.Need-loop-less Inv-loop μ-loop
@@ -57,10 +62,14 @@ loop-less c =
 
 loop-again : tie.Need-loop-again Inv-loop μ-loop
 loop-again c =
-    let the-pre = c .before .before .before .before .before .before .before .before .before .before .before .before .before .before .before .pre in
-    let the-fill-u32 = c .before .before .before .before .before .before .before .before .fill-u32 in
-    let the-loop = c .before .before .before .before .before .loop in
-    let the-loop-test = c .before .before .before .before .loop-test in
+    let in-loop = c .before .before .before .before in
+    let at-loop = in-loop .before in
+    let at-fill-u32 = at-loop .before .before .before in
+    let start = at-fill-u32 .before .before .before .before .before .before .before in
+    let the-pre = start .pre in
+    let the-fill-u32 = at-fill-u32 .fill-u32 in
+    let the-loop = at-loop .loop in
+    let the-loop-test = in-loop .loop-test in
     let the-note = c .before .before .note in
     counting-more (the-pre .1 .0) (omega (arith, the-fill-u32 .kept .0, the-pre .1 .1)) (the-loop .inv) (the-loop-test .taken) (the-note .ensures) (the-note .kept .1 .1 .1 .1 .0)
 
@@ -71,10 +80,13 @@ same-length c =
 
 returns : tie.Need-returns Inv-loop μ-loop
 returns c =
-    let the-pre = c .before .before .before .before .before .before .before .before .before .before .before .pre in
-    let the-rows-room = c .before .before .before .before .before .before .rows-room in
-    let the-args = c .before .before .before .before .before .before .before .before .before .before .before .args in
-    let the-fill-u32 = c .before .before .before .before .fill-u32 in (
+    let at-fill-u32 = c .before .before .before .before in
+    let at-rows-room = at-fill-u32 .before .before in
+    let start = at-rows-room .before .before .before .before .before in
+    let the-pre = start .pre in
+    let the-rows-room = at-rows-room .rows-room in
+    let the-args = start .args in
+    let the-fill-u32 = at-fill-u32 .fill-u32 in (
       counting-whole (the-pre .1 .0) (c .before .loop .inv) (c .loop-test .left),
       c .before .loop .inv .rest ∙ rw (the-rows-room .ensures) at (filled-rest (the-args .rows .now) (the-rows-room .result) 0 (the-fill-u32 .ensures)),
     )
