@@ -1,8 +1,8 @@
 -- A map has one table of rows. Assumes nothing.
-use mathlib.Core.Path.{_≡_, sym, ap, _∙_}
+use mathlib.Core.Path.{_≡_, sym, _∙_}
 use mathlib.Core.Logic.{by-cases}
 use mathlib.Core.List.{List}
-use Prim.Native.Nat.{ℕ, _*_, _/_, _%_, _<_}
+use Prim.Native.Nat.{ℕ, _<_}
 use native.Mathlib.Decide.{decLt}
 use native.Mathlib.Omega.{arith}
 use lib.ListN.{length, getD, drop}
@@ -21,14 +21,9 @@ first-one m n r i j a b =
 
 -- a region's row is settled, but for its mark
 pub row-only : {g : Grid} {codel n : ℕ} {m : List ℕ} {r : ℕ} {x y : RowNumbers} → Row g codel n m r x → Row g codel n m r y → x .mark ≡ y .mark → x ≡ y
-row-only {g} {codel} {n} {m} {r} a b mark =
+row-only {n = n} {m = m} {r = r} a b mark =
     let e = first-one m n r (a .first) (b .first) (a .is-first) (b .is-first) in
-    same-row
-    (a .colour ∙ ap (g .colour) e ∙ sym (b .colour))
-    (a .size ∙ sym (b .size))
-    (a .row ∙ ap (λ (i : ℕ). i / g .cols * codel) e ∙ sym (b .row))
-    (a .column ∙ ap (λ (i : ℕ). i % g .cols * codel) e ∙ sym (b .column))
-    mark
+    same-row (cc) (cc) (cc) (cc) mark
 
 -- two tables of one map have the same rows
 module _ (g : Grid) (codel n : ℕ) (m t t′ : List ℕ) (a : IsTable g codel n m t) (b : IsTable g codel n m t′) where

@@ -1,7 +1,7 @@
 -- `cfg::nodes::clear_exits` meets its contract: the loop's invariant: the exits of the states below s are 0 (`Zeros`).
 -- Assumes nothing.
 use mathlib.Core.Path.{_≡_, refl}
-use Prim.Native.Nat.{_-_, _≤_}
+use Prim.Native.Nat.{_-_, _<_, _≤_}
 use native.Mathlib.Omega.{arith}
 use lib.ListN.{length, length-set}
 use Rattle.cfg.specs.Search.{Zeros}
@@ -19,7 +19,7 @@ loop-holds : tie.Need-loop-holds Inv-loop μ-loop
 loop-holds c = (omega arith, zeros-none (c .before .args .r) (c .before .args .exits .now), refl)
 
 exit-cell-requires : tie.Need-exit-cell-requires Inv-loop μ-loop
-exit-cell-requires c κs = (omega (arith, c .before .before .before .pre .1), c .loop-test .taken)
+exit-cell-requires c κs = (omega (arith, c .before .before .before .pre .1), omega (arith, c .loop-test .taken))
 
 mul-exits : tie.Need-mul-exits Inv-loop μ-loop
 mul-exits c = omega (arith, c .exit-cell .ensures, c .before .loop-test .taken, c .before .before .before .before .pre .1)
@@ -37,7 +37,7 @@ loop-less c = omega (arith, c .before .loop-test .taken)
 loop-again : tie.Need-loop-again Inv-loop μ-loop
 loop-again c =
     let start = c .before .before .before .before in
-    let few = c .before .loop-test .taken in
+    let few : c .before .before .loop .s < 8 = omega (arith, c .before .loop-test .taken) in
     let l = c .before .before .loop in (
       omega (arith, few),
       rw (c .exit-cell .ensures) (zeros-more (start .args .r) (l .s) (start .args .exits .now) (l .exits) few (omega (arith, few, start .pre .0, l .inv .2)) (l .inv .1)),
