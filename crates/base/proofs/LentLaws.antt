@@ -5,7 +5,7 @@ use Prim.Native.Nat.{ℕ, zero, suc, _+_, _<_, _≤_}
 use native.Mathlib.Nat.{le-of-suc-le-suc, not-suc-le-zero}
 use native.Mathlib.Numerals.{add-one}
 use native.Mathlib.Omega.{arith}
-use lib.ListN.{length, getD, take, drop, set, length-append, length-take, length-drop}
+use lib.ListN.{length, getD, take, drop, set}
 use lib.Seq.{drop-cons, take-suc, set-at, append-snoc, length-take-le, take-all}
 use Rattle.base.specs.Lent.{lent}
 
@@ -27,9 +27,6 @@ module _ {A : Type 0} (w l : List A) (i : ℕ) (z : A) where
       ∙ sym (append-snoc (take i w) (getD w i z) (drop (suc i) l)))
 
 module _ {A : Type 0} (w l : List A) (i : ℕ) where
-  pub length-written : i ≤ length w → length w ≤ length l → length (take i w ++ drop i l) ≡ length l
-  length-written h k = simp (length-append, length-take, length-drop) (omega arith)
-
   pub all-written : i ≡ length w → take i w ++ drop i l ≡ lent w l
   unfolding lent
   all-written e = rw (e, take-all (length w) w (omega arith))

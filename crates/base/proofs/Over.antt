@@ -63,10 +63,6 @@ module _ {A : Type 0} where
       ∙ over-over d at z (v ∷ []) (omega arith)
       ∙ rw (← j, ← replicate-append-replicate {A = A} (i - at) 1 v)
 
-  pub filled-length : (d : List A) (from to : ℕ) (v : A) → from ≤ to → to ≤ length d → length (filled from to v d) ≡ length d
-  unfolding filled
-  filled-length d from to v h k = over-length d from (replicate (to - from) v) (rw (length-replicate (to - from) v) (omega arith))
-
   -- from the start on
   pub filled-zero : (d : List A) (n : ℕ) (v : A) → filled 0 n v d ≡ replicate n v ++ drop n d
   unfolding filled lent

@@ -6,7 +6,7 @@ use native.Mathlib.Omega.{arith}
 use borrow.Author.Tests.{ltb-false}
 use lib.Dec.{eqb, ltb}
 use mathlib.Core.Bool.{Bool, true, false, cond, _||_}
-use lib.ListN.{length, length-append, replicate, length-replicate, List·getD-eq-default}
+use lib.ListN.{length, length-append, replicate, List·getD-eq-default}
 use Rattle.colour.specs.Label.{hueName, lightnessName, name, place, isEntry, labelOf, padded, refused}
 use Rattle.base.specs.Lent.{lent, filled, Put}
 use Rattle.base.specs.Text.{ascii}
@@ -59,11 +59,6 @@ label-length colour r c h k =
         → length (cond b (ascii "Entry") (name colour ++ place r ++ place c)) ≤ 22
     by-test true l = omega arith
     by-test false l = l
-
--- the label and then zeros: the first 22 bytes are written
-pub padded-length : (label : List ℕ) → length label ≤ 22 → length (padded label) ≡ 22
-unfolding padded
-padded-length label h = simp (length-append, length-replicate) (omega arith)
 
 pub finished : {d d′ d″ label : List ℕ} {n : ℕ} → length label ≤ 22 → 22 ≤ length d → Put d 0 label n d′
     → d″ ≡ filled n 22 0 d′ → d″ ≡ lent (padded label) d

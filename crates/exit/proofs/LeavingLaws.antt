@@ -2,16 +2,14 @@
 use mathlib.Core.Path.{_≡_, refl, sym, _∙_}
 use mathlib.Core.Bool.{Bool, true, false, cond, true≢false, false≢true}
 use mathlib.Core.Logic.{_⊎_, inl, inr}
-use mathlib.Core.List.{List}
 use Prim.Native.Nat.{ℕ, zero, suc, _+_, _-_, _*_, _/_, _%_, _<_, _≤_}
 use native.Mathlib.Nat.{div-add-mod', div-lt-iff-lt-mul, mod-lt}
 use native.Mathlib.Omega.{arith}
 use borrow.Author.Tests.{ltb-true, ltb-false, lt-ltb, le-ltb}
 use lib.Dec.{ltb}
-use lib.ListN.{getD}
 use Rattle.flow.specs.Pointer.{Valid}
 use Rattle.flow.specs.declared.PointerState.{PointerState}
-use Rattle.exit.specs.Leaving.{behind, sideOf, more, reach, beats, Furthest}
+use Rattle.exit.specs.Leaving.{behind, sideOf, more, reach, beats}
 
 -- ---- two pairs of distances
 
@@ -123,13 +121,6 @@ module _ (rows cols : ℕ) (s : PointerState) where
     pub beats-side : a ≤ b → b ≤ a → {x y : ℕ} → x ≡ B i → y ≡ B j → ltb y x ≡ beats rows cols s i j
     unfolding beats
     beats-side h k ex ey = rw (ex, ey) (sym (more-second (A i) (B i) (A j) (B j) (omega arith) (omega arith)))
-
--- "the furthest toward dp and among those the furthest toward cc": of the codels of the region every other lies less far
--- toward dp, or as far and no further toward cc
-pub furthest-is : {map : List ℕ} {rows cols : ℕ} {s : PointerState} {n region i : ℕ} → Furthest map rows cols s n region i
-    → (j : ℕ) → j < n → getD map j 0 ≡ region
-    → NotMore (reach rows cols (s .dp) j) (reach rows cols (sideOf s) j) (reach rows cols (s .dp) i) (reach rows cols (sideOf s) i)
-furthest-is {rows = rows} {cols = cols} {s = s} {i = i} F j l o = beats-not rows cols s j i (F .unbeaten j l o)
 
 -- ---- places
 

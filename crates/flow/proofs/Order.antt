@@ -115,6 +115,3 @@ attempt-offset p t hp ht =
         subst (λ (u : PointerState). stateNumber (attemptOf (ofNumber (stateNumber p)) (offsetOf (ofNumber (stateNumber p)) u)) ≡ stateNumber t)
         (of-number t ht)
         (target-table (stateNumber p) (stateNumber t) (number-small p hp) (number-small t ht))
-
-pub offset-small : (p t : PointerState) → offsetOf p t < 8
-offset-small p t = omega arith

@@ -1,17 +1,14 @@
 -- The grid by the code's numbers is the picture's own, and what its codels may be relied on for. Assumes nothing.
-use mathlib.Core.Path.{_≡_, refl, ap}
+use mathlib.Core.Path.{_≡_, ap}
 use mathlib.Core.List.{List}
 use Prim.Native.Nat.{ℕ, _*_, _/_, _%_, _≤_, _<_}
 use native.Mathlib.Omega.{arith}
 use lib.ListN.{length}
 use Rattle.picture.specs.declared.shape.Shape.{Shape}
-use Rattle.picture.specs.Picture.{Picture, Inside, shapeOf, pictureOf, Frames}
+use Rattle.picture.specs.Picture.{Inside, pictureOf, Frames}
 use Rattle.picture.proofs.Codels.{frames-few, frames-shape, inside-of, row-in, col-in}
 use Rattle.region.specs.Grid.{gridOf, gridAt}
 use Rattle.region.specs.Room.{Room}
-
-pub grid-is : (p : Picture) → gridAt (p .colours) (shapeOf p) ≡ gridOf p
-grid-is p = refl
 
 pub framed-grid : {colours : List ℕ} {s : Shape} → Frames colours s → gridAt colours s ≡ gridOf (pictureOf colours s)
 framed-grid {colours} {s} f = ap (gridAt colours) (frames-shape f)

@@ -2,5 +2,4 @@
 pub mod Writing
 pub mod Partly
 pub mod TextLaws
-pub mod Only
 pub mod Examples

@@ -50,9 +50,6 @@ module _ (n r : ℕ) where
   pub exit-below : (s : ℕ) → s < 8 → exitCell r s < exitsRoom n → r < n
   exit-below s h l = omega arith
 
-  pub exit-past : (s : ℕ) → s < 8 → n ≤ r → exitsRoom n ≤ exitCell r s
-  exit-past s h l = omega arith
-
 -- two fields, or two states, share no cell
 pub row-apart : (r f q g : ℕ) → f < 5 → g < 5 → rowCell r f ≡ rowCell q g → (r ≡ q) × (f ≡ g)
 row-apart r f q g h k e = (omega arith, omega arith)
