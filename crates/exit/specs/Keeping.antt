@@ -12,7 +12,7 @@ use Rattle.table.specs.Layout.{exitCell}
 use Rattle.exit.specs.Leaving.{beats, Furthest}
 use Rattle.exit.specs.LeaveTable.{Mapped}
 
--- such a map, and cells that each hold some codel
+-- a map, and cells that each hold some codel
 pub record Cells (map best : List ℕ) (rows cols : ℕ) : Type 0 where
   pub mapped : Mapped map (length best) rows cols
   pub codels : (k : ℕ) → k < length best → getD best k 0 < length map

@@ -1,9 +1,9 @@
 -- Which cell is whose: a cell of the rows is one field of one region, a cell of the exits one state of one region. What
 -- speaks of all cells goes through these laws, so that the layout is known here alone.
---     row-split, exit-split      the region and the field, or the state, of a cell
---     row-in, row-past, ..       which cells are of the first n regions
---     row-apart, exit-apart      two of them share no cell
---     same-rows, same-exits      two lists with the same rows, or the same exits, are equal
+--     row-in, row-past, ..             which cells are of the first n regions
+--     row-apart, exit-apart            two fields, or two exits, share no cell
+--     each-row-cell, each-exit-cell    every cell is one of these
+--     same-rows, same-exits            two lists with the same rows, or the same exits, are equal
 -- Assumes nothing.
 use mathlib.Core.Path.{_≡_, refl, sym, ap, subst, _∙_}
 use mathlib.Core.List.{List}
@@ -12,26 +12,6 @@ use native.Mathlib.Omega.{arith}
 use lib.ListN.{length, getD}
 use lib.Seq.{ext-getD}
 use Rattle.table.specs.Layout.{rowCell, exitCell, rowsRoom, exitsRoom, fieldAt, exitAt, RowNumbers, rowAt, blank}
-
--- the region and the field that a cell of the rows is of
-pub record RowCell (k : ℕ) : Type 0 where
-  pub region : ℕ
-  pub field : ℕ
-  pub few : field < 5
-  pub is : rowCell region field ≡ k
-
-pub row-split : (k : ℕ) → RowCell k
-row-split k = record { region = k / 5; field = k % 5; few = omega arith; is = omega arith }
-
--- the region and the state that a cell of the exits is of
-pub record ExitCell (k : ℕ) : Type 0 where
-  pub region : ℕ
-  pub state : ℕ
-  pub few : state < 8
-  pub is : exitCell region state ≡ k
-
-pub exit-split : (k : ℕ) → ExitCell k
-exit-split k = record { region = k / 8; state = k % 8; few = omega arith; is = omega arith }
 
 -- the cells of the first n regions are those below their room
 module _ (n r : ℕ) where
@@ -57,12 +37,16 @@ row-apart r f q g h k e = (omega arith, omega arith)
 pub exit-apart : (r s q t : ℕ) → s < 8 → t < 8 → exitCell r s ≡ exitCell q t → (r ≡ q) × (s ≡ t)
 exit-apart r s q t h k e = (omega arith, omega arith)
 
--- what holds of each field of each region holds of each cell, and the same of the exits
+-- every cell is a field of a region, or an exit of one: what holds of each of these holds of each cell
 pub each-row-cell : (P : ℕ → Type 0) → ((r f : ℕ) → f < 5 → P (rowCell r f)) → (k : ℕ) → P k
-each-row-cell P h k = let x = row-split k in subst P (x .is) (h (x .region) (x .field) (x .few))
+each-row-cell P h k =
+    let e : rowCell (k / 5) (k % 5) ≡ k = omega arith in
+    subst P e (h (k / 5) (k % 5) (omega arith))
 
 pub each-exit-cell : (P : ℕ → Type 0) → ((r s : ℕ) → s < 8 → P (exitCell r s)) → (k : ℕ) → P k
-each-exit-cell P h k = let x = exit-split k in subst P (x .is) (h (x .region) (x .state) (x .few))
+each-exit-cell P h k =
+    let e : exitCell (k / 8) (k % 8) ≡ k = omega arith in
+    subst P e (h (k / 8) (k % 8) (omega arith))
 
 -- two rows with the same five numbers are the same, and so are their fields
 pub same-row : {x y : RowNumbers} → x .colour ≡ y .colour → x .size ≡ y .size → x .row ≡ y .row → x .column ≡ y .column → x .mark ≡ y .mark → x ≡ y
