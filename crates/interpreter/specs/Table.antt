@@ -8,7 +8,7 @@ use lib.ListN.{length}
 use Rattle.flow.specs.declared.PointerState.{PointerState}
 use Rattle.flow.specs.Pointer.{stateNumber, ofNumber, attemptOf}
 use Rattle.machine.specs.declared.Op.{Op}
-use Rattle.machine.specs.Machine.{numbered}
+use Rattle.machine.specs.Machine.{opNumbered}
 use Rattle.table.specs.Layout.{sizeField, markField, fieldAt, exitAt, rowsRoom, exitsRoom}
 use Rattle.table.specs.ExitNumber.{targetOf, stateOf, instructionOf, largestExit}
 
@@ -17,7 +17,7 @@ abbrev pub pointersOf : ℕ → PointerState
 pointersOf w = ofNumber (stateOf w)
 
 abbrev pub opOf : ℕ → Op
-opOf w = numbered (instructionOf w)
+opOf w = opNumbered (instructionOf w)
 
 -- a region's size, and its node mark
 abbrev pub sizeOf : List ℕ → ℕ → ℕ

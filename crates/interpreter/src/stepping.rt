@@ -71,7 +71,7 @@ fn go_through(
     let core = at.core;
     let target = target_of(w);
     let p = PointerState::of_number(state_of(w));
-    let op = machine::numbered(instruction_of(w));
+    let op = machine::op_numbered(instruction_of(w));
     match machine::exec(
         op,
         size,

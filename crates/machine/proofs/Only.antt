@@ -1,7 +1,7 @@
 -- Two outcomes that a contract allows for one input are equal, answer and cells, for each public function:
 --     exec                     execs-only
 --     int_out, char_out        puts-only
---     numbered, at_pointers    `equation-only` of base's proofs/Only.antt
+--     op_numbered, at_pointers    `equation-only` of base's proofs/Only.antt
 -- A call leaves the length of a lent slice as it is. Assumes nothing.
 use mathlib.Core.Path.{_≡_, _∙_, sym, ap, ap₂, refl}
 use mathlib.Core.List.{List, [], _∷_, _++_}

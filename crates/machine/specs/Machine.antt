@@ -28,8 +28,8 @@ ops =
     Nothing ∷ Push ∷ Pop ∷ Pair Add ∷ Pair Sub ∷ Pair Mul ∷ Pair Div ∷ Pair Mod ∷ Not ∷ Pair Gt ∷ Ptr ∷ Swi ∷ Dup ∷ Roll ∷ CharIn ∷ CharOut ∷ IntIn ∷ IntOut
     ∷ []
 
-abbrev pub numbered : ℕ → Op
-numbered n = getD ops n Nothing
+abbrev pub opNumbered : ℕ → Op
+opNumbered n = getD ops n Nothing
 
 -- the status of a run that stops: "1 Completed", "2 MaxSteps", "3 NeedsInput", "4 StackFull", "5 OutputFull", "6 BadInput"
 unfoldable pub statusOf : Stop → ℕ

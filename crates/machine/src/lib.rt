@@ -10,7 +10,7 @@ ghost use mathlib.Core.Path.{_≡_};
 ghost use Rattle.flow.specs.Pointer.{Valid, rotated, switched};
 ghost use Rattle.text.specs.Input.{charOf, intOf};
 ghost use Rattle.stack.specs.Stack.{Lies};
-ghost use Rattle.machine.specs.Machine.{given, exec, take, turn, read, numbered, statusOf};
+ghost use Rattle.machine.specs.Machine.{given, exec, take, turn, read, opNumbered, statusOf};
 ghost use Rattle.machine.specs.Held.{slices, Stands, Execs, StackExecs, atDepth, atOutputs, atUsed, atPointers, atWait, grownOf, wroteOf};
 
 // The instructions; Nothing is what a slide's or a black region's exit carries.
@@ -119,8 +119,8 @@ pub fn status(stop: Stop) -> u64
 }
 
 // The instruction with the number n: "1 to 17 in the order of `Instruction`"; every other number is none.
-pub fn numbered(n: u32) -> Op
-    ensures { λ r. ⌜ r ≡ numbered n ⌝ }
+pub fn op_numbered(n: u32) -> Op
+    ensures { λ r. ⌜ r ≡ opNumbered n ⌝ }
 {
     match n {
         1 => Op::Push,

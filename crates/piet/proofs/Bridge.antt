@@ -35,7 +35,7 @@ pub record Tabled (p : Picture) (map rows exits : List ℕ) (n : ℕ) : Type 0 w
 
 module _ {p : Picture} {map rows exits : List ℕ} {n : ℕ} (S : Sound p) (B : Tabled p map rows exits n) where
   -- what an exit that is not 0 says
-  pub record Leaves-by (r : ℕ) (q : PointerState) (x : ℕ) : Type 0 where
+  pub record OpenExit (r : ℕ) (q : PointerState) (x : ℕ) : Type 0 where
     pub opens : Opens p map r q (targetOf x) (pointersOf x) (instructionOf x)
     pub node : Node p map (targetOf x)
     pub low : targetOf x < n
@@ -43,7 +43,7 @@ module _ {p : Picture} {map rows exits : List ℕ} {n : ℕ} (S : Sound p) (B : 
     pub some : x ≡ 0 → ⊥
 
   -- an open exit says where it leads
-  opened : {r target i : ℕ} {q u : PointerState} → Opens p map r q target u i → Leads p map n target u i → Leaves-by r q (exitNumber target (stateNumber u) i)
+  opened : {r target i : ℕ} {q u : PointerState} → Opens p map r q target u i → Leads p map n target u i → OpenExit r q (exitNumber target (stateNumber u) i)
   opened {target = target} {i = i} {u = u} o l =
       let h : target < 65536 = omega (arith, l .low, map-few (gridOf p) map n (B .regions), S .few) in
       let k = number-small u (l .valid) in
@@ -57,13 +57,13 @@ module _ {p : Picture} {map rows exits : List ℕ} {n : ℕ} (S : Sound p) (B : 
         some = λ z. omega arith;
       }
 
-  says : {r x : ℕ} {q : PointerState} → Valid q → Node p map r → Exit p map r q x → ((x ≡ 0) × Shut p map r q) ⊎ Leaves-by r q x
+  says : {r x : ℕ} {q : PointerState} → Valid q → Node p map r → Exit p map r q x → ((x ≡ 0) × Shut p map r q) ⊎ OpenExit r q x
   says v N (no-node a) = absurd (a N)
   says v N (shut a s) = inl (refl, s)
   says v N (leads a o) = inr (opened o (opens-leads S (B .regions) (B .map-long) (N .found) v o))
 
   pub exit-says : (r : ℕ) (q : PointerState) → r < n → Valid q → Node p map r
-      → ((exitAt exits r (stateNumber q) ≡ 0) × Shut p map r q) ⊎ Leaves-by r q (exitAt exits r (stateNumber q))
+      → ((exitAt exits r (stateNumber q) ≡ 0) × Shut p map r q) ⊎ OpenExit r q (exitAt exits r (stateNumber q))
   exit-says r q h v N =
       says v N (subst (λ (u : PointerState). Exit p map r u (exitAt exits r (stateNumber q))) (of-number q v) (B .exit r (stateNumber q) h (number-small q v)))
 
@@ -89,7 +89,7 @@ module _ {p : Picture} {map rows exits : List ℕ} {n : ℕ} (S : Sound p) (B : 
         (λ (z : (tried exits r q k ≡ 0) × Shut p map r (attemptOf q k)).
         rw (eq-eqb (tried exits r q k) 0 (z .0))
         (taken-from left (suc k) (omega arith) (λ j l. ⊎-elim (λ (m : j < k). before j m) (λ (m : j ≡ k). rw m (z .1)) (last-or j k l))))
-        (λ (z : Leaves-by r (attemptOf q k) (tried exits r q k)).
+        (λ (z : OpenExit r (attemptOf q k) (tried exits r q k)).
         rw (ne-eqb (tried exits r q k) 0 (z .some))
         (some (z .some) (record { attempt = k; few = omega arith; opens = z .opens; before = before }) (z .node) (z .low) (z .valid)))
         (exit-says r (attemptOf q k) h (valid-attempt q k v) N)

@@ -23,7 +23,7 @@ use Rattle.text.specs.Input.{charOf, intOf}
 use Rattle.text.specs.Reading.{takeOf}
 use Rattle.machine.specs.declared.Stop.{Stop}
 use Rattle.machine.specs.declared.Stop.the-variants.{Completed, MaxSteps, NeedsInput}
-use Rattle.machine.specs.Machine.{Given, RunRoom, Store, Effect, does, bad-input, keeps, stops, numbered, exec, withPointers, byTop, turn, write, take, read}
+use Rattle.machine.specs.Machine.{Given, RunRoom, Store, Effect, does, bad-input, keeps, stops, opNumbered, exec, withPointers, byTop, turn, write, take, read}
 use Rattle.machine.specs.Place.{Machine, End, start}
 use Rattle.machine.specs.declared.Op.{Op}
 use Rattle.machine.specs.declared.Op.the-variants.{Nothing, Push as PushOp, Pop, Pair, Not, Ptr, Swi, Dup, Roll, CharIn, CharOut, IntIn, IntOut}
@@ -91,7 +91,7 @@ executing g size IntOut m h = h
 -- a move that is kept keeps the pointers a state
 pub keeps-valid : (p : Picture) (map : List ℕ) (g : Given) (room : RunRoom) (r : ℕ) (u : PointerState) (i : ℕ) (m : Store) {m′ : Store}
     → doing p map g room r u i m ≡ keeps m′ → Valid u → Valid (m′ .pointers)
-keeps-valid p map g room r u i m h v = subst Holds (fit-kept room _ h) (executing g (tally r (codels p) map) (numbered i) (withPointers u m) v)
+keeps-valid p map g room r u i m h v = subst Holds (fit-kept room _ h) (executing g (tally r (codels p) map) (opNumbered i) (withPointers u m) v)
 
 -- ---- a run over the table walks the picture
 
@@ -105,7 +105,7 @@ module _ {p : Picture} {map rows exits : List ℕ} {n : ℕ} (S : Sound p) (B : 
   abbrev job : Job
   job = record { rows = rows; exits = exits; given = g; room = room }
 
-  -- where a run stands after a history: the picture is walked to there; it is a node, and numbered; the pointers are a state
+  -- where a run stands after a history: the picture is walked to there; it is a node, and opNumbered; the pointers are a state
   pub record Stands (history : List Move) (m : Machine) : Type 0 where
     pub walk : Walk p map g room history (m .region) (m .store)
     pub node : Node p map (m .region)
@@ -145,7 +145,7 @@ module _ {p : Picture} {map rows exits : List ℕ} {n : ℕ} (S : Sound p) (B : 
   both : {r target i : ℕ} {q u : PointerState} → NoneOpen p map r q → FirstOpen p map r q target u i → ⊥
   both N F = N .all (F .attempt) (F .few) .never _ _ _ (F .opens)
 
-  -- a run follows the picture and ends at a region that is numbered
+  -- a run follows the picture and ends at a region that is opNumbered
   abbrev Ends : End → Type 0
   Ends e = Follows p map g room e × (e .at .region < n)
 

@@ -36,7 +36,7 @@ use Rattle.exit.proofs.Opening.{same-way}
 use Rattle.machine.specs.declared.Op.{Op}
 use Rattle.machine.specs.declared.Op.the-variants.{Nothing}
 use Rattle.machine.specs.declared.Stop.the-variants.{Completed}
-use Rattle.machine.specs.Machine.{Given, RunRoom, Store, does, numbered, exec}
+use Rattle.machine.specs.Machine.{Given, RunRoom, Store, does, opNumbered, exec}
 use Rattle.machine.specs.Place.{start, End}
 use Rattle.piet.specs.Moves.{NoneOpen}
 use Rattle.piet.specs.Follows.{Follows}
@@ -60,20 +60,20 @@ white-black = (refl, refl)
 hues : (a b i : ℕ) → a < 6 → b < 6 → i < 6 → b ≡ (a + i) % 6 → (b + 6 - a) % 6 ≡ i
 hues a b i ha hb hi e = omega arith
 
-shades : (a b j : ℕ) → a < 3 → b < 3 → j < 3 → 2 - b ≡ (2 - a + j) % 3 → (a + 3 - b) % 3 ≡ j
-shades a b j ha hb hj e = omega arith
+steps-darker : (a b j : ℕ) → a < 3 → b < 3 → j < 3 → 2 - b ≡ (2 - a + j) % 3 → (a + 3 - b) % 3 ≡ j
+steps-darker a b j ha hb hj e = omega arith
 
 pub command-table : (from to i j : ℕ) → from < 18 → to < 18 → i < 6 → j < 3 → column to ≡ (column from + i) % 6 → line to ≡ (line from + j) % 3
-    → numbered (decodeOf from to) ≡ getD (getD commands i []) j Nothing
+    → opNumbered (decodeOf from to) ≡ getD (getD commands i []) j Nothing
 unfolding decodeOf
 command-table from to i j f t hi hj e d =
     rw (
       lt-ltb from 18 f,
       lt-ltb to 18 t,
       hues (from % 6) (to % 6) i (omega arith) (omega arith) hi e,
-      shades (from / 6) (to / 6) j (omega arith) (omega arith) hj d,
+      steps-darker (from / 6) (to / 6) j (omega arith) (omega arith) hj d,
     )
-    (sym (List·getD-map numbered (getD decoding.commands i []) j 0) ∙ ap (λ (l : List Op). getD l j Nothing) (sym (List·getD-map (map numbered) decoding.commands i [])))
+    (sym (List·getD-map opNumbered (getD decoding.commands i []) j 0) ∙ ap (λ (l : List Op). getD l j Nothing) (sym (List·getD-map (map opNumbered) decoding.commands i [])))
 
 -- ---- "Start and motion": "Execution starts at the upper left codel's block, the direction pointer (DP) right, the codel
 -- chooser (CC) left, the stack empty"
@@ -242,7 +242,7 @@ slide-lands {p} {rule} {past} {t} {r} {c} {r′} {c′} {s} {o} h e = (
 -- "Entering a coloured block from white executes nothing"
 pub enters-silently : {p : Picture} {map : List ℕ} {r a b c d target i : ℕ} {q u v : PointerState} → Sound p → length map ≡ codels p → Valid q
     → Tried p map r q (Glide a b c d u) → Opens p map r q target v i
-    → (g : Given) (size : ℕ) (m : Store) → exec g size (numbered i) m ≡ does m
+    → (g : Given) (size : ℕ) (m : Store) → exec g size (opNumbered i) m ≡ does m
 unfolding exec
 enters-silently S L k t (beside x) g size m = let e = same-way (cols-pos S) L k t x in clash (cc)
 enters-silently S L k t (across x) g size m = refl

@@ -9,7 +9,7 @@ use lib.ListN.{length}
 use Rattle.flow.specs.declared.PointerState.{PointerState}
 use Rattle.machine.specs.declared.Stop.{Stop}
 use Rattle.machine.specs.declared.Stop.the-variants.{Completed, MaxSteps, NeedsInput}
-use Rattle.machine.specs.Machine.{Given, RunRoom, Store, Out, keeps, stops, numbered, exec, withPointers, fitting}
+use Rattle.machine.specs.Machine.{Given, RunRoom, Store, Out, keeps, stops, opNumbered, exec, withPointers, fitting}
 use Rattle.machine.specs.Place.{start, End}
 use Rattle.piet.specs.Moves.{FirstOpen, NoneOpen}
 use Rattle.picture.specs.Picture.{Picture, codels}
@@ -26,7 +26,7 @@ module _ (p : Picture) (map : List ℕ) (g : Given) (room : RunRoom) where
   -- what the instruction of a move from region r comes to: it is executed "with the size of the block just left", and kept
   -- where there is room
   abbrev pub doing : ℕ → PointerState → ℕ → Store → Out
-  doing r u i m = fitting room (exec g (tally r (codels p) map) (numbered i) (withPointers u m))
+  doing r u i m = fitting room (exec g (tally r (codels p) map) (opNumbered i) (withPointers u m))
 
   -- `Walk history r m`: after these moves, the latest first, the run stands at region r with the store m. It starts at
   -- region 0 with dp right and cc left and nothing else; each move is the first open one of the eight attempts from the

@@ -9,7 +9,7 @@ use Rattle.text.specs.Range.{within}
 use Rattle.text.specs.Utf8.{scalar, scalars, encode, encodes}
 use Rattle.text.specs.White.{whiteSpace, trimStart}
 use Rattle.text.specs.Number.{digits, numeral, magnitudeOf, sign, parsed}
-use Rattle.text.specs.Input.{charOf, intOf, given}
+use Rattle.text.specs.Input.{charOf, intOf, pushOrSkip}
 use Rattle.text.specs.Reading.{back, rest, chars, same, valid, takeOf}
 use Rattle.text.specs.declared.input.Taken.the-variants.{Push, Skip, BadInput}
 use Rattle.text.specs.declared.number.Number.the-variants.{Value, NotANumber}
@@ -83,18 +83,18 @@ past = refl
 
 -- ` -12`, newline, `7`: the line is taken and -12 pushed. A line with a lone continuation byte is refused
 taken : takeOf intOf (0x20 ∷ 0x2D ∷ 0x31 ∷ 0x32 ∷ 10 ∷ 0x37 ∷ []) 0 ≡ Push (negsuc 11) 5
-unfolding scalar scalars encode encodes whiteSpace within trimStart digits numeral valueAfter magnitudeOf sign parsed lineLength back rest chars same valid given takeOf
+unfolding scalar scalars encode encodes whiteSpace within trimStart digits numeral valueAfter magnitudeOf sign parsed lineLength back rest chars same valid pushOrSkip takeOf
 taken = refl
 
 refused : takeOf intOf (0x31 ∷ 0x80 ∷ 10 ∷ []) 0 ≡ BadInput
-unfolding scalar scalars encode encodes within lineLength back rest chars same valid given takeOf
+unfolding scalar scalars encode encodes within lineLength back rest chars same valid pushOrSkip takeOf
 refused = refl
 
 -- CharIn pushes the newline of an empty line, and is skipped at the end of the input
 empty : takeOf charOf (10 ∷ []) 0 ≡ Push (pos 10) 1
-unfolding scalar scalars encode encodes within lineLength back rest chars same valid given takeOf charOf
+unfolding scalar scalars encode encodes within lineLength back rest chars same valid pushOrSkip takeOf charOf
 empty = refl
 
 at-end : takeOf charOf (10 ∷ []) 1 ≡ Skip 1
-unfolding scalars encodes lineLength chars same valid given takeOf charOf
+unfolding scalars encodes lineLength chars same valid pushOrSkip takeOf charOf
 at-end = refl

@@ -15,7 +15,7 @@ use Rattle.text.specs.Line.{lineLength, lineEnd}
 use Rattle.text.specs.Utf8.{Utf8, Valid, IsChar, Reads, char, bad, past}
 use Rattle.text.specs.Trim.{Trims}
 use Rattle.text.specs.Number.{parsed}
-use Rattle.text.specs.Input.{charOf, intOf, given, Takes, reads, bad as bad-line}
+use Rattle.text.specs.Input.{charOf, intOf, pushOrSkip, Takes, reads, bad as bad-line}
 use Rattle.text.specs.declared.utf8.Decoded.{Decoded}
 use Rattle.text.specs.declared.number.Number.{Number}
 use Rattle.text.specs.declared.number.Number.the-variants.{Value, NotANumber}
@@ -26,7 +26,7 @@ use Rattle.text.proofs.ValidLaws.{bad-never}
 use Rattle.text.proofs.LineLaws.{line-none, line-part}
 
 pub take-none : (f : List ℕ → Number) (s : List ℕ) (at : ℕ) → f [] ≡ NotANumber → length s ≤ at → Takes f s at (Skip at)
-unfolding given
+unfolding pushOrSkip
 take-none f s at e h =
     let n : lineLength (drop at s) ≡ 0 = line-none s at h in
     let p : at ≡ lineEnd s at = omega arith in
@@ -42,11 +42,11 @@ module _ (f : List ℕ → Number) (s : List ℕ) (at e : ℕ) (is : e ≡ lineE
     line-utf8 = subst (λ (l : List ℕ). Utf8 l cs) (line-part s at e is) u
 
     pub take-skip : f cs ≡ NotANumber → Takes f s at (Skip e)
-    unfolding given
+    unfolding pushOrSkip
     take-skip q = reads cs line-utf8 (rw (q, ← is))
 
     pub take-push : (v : ℤ) → f cs ≡ Value v → Takes f s at (Push v e)
-    unfolding given
+    unfolding pushOrSkip
     take-push v q = reads cs line-utf8 (rw (q, ← is))
 
 -- ---- the characters cs of a line l

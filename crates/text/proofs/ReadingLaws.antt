@@ -15,7 +15,7 @@ use lib.ListN.{length, length-append}
 use Rattle.base.proofs.Tests.{and-both}
 use Rattle.text.specs.Utf8.{scalars, encode, encodes, Utf8}
 use Rattle.text.specs.Line.{lineAt, lineEnd}
-use Rattle.text.specs.Input.{given, Takes, reads, bad}
+use Rattle.text.specs.Input.{pushOrSkip, Takes, reads, bad}
 use Rattle.text.specs.Reading.{back, rest, chars, reading, same, valid, takeOf}
 use Rattle.text.specs.declared.number.Number.{Number}
 use Rattle.text.specs.declared.input.Taken.{Taken}
@@ -77,7 +77,7 @@ utf8-valid s cs u =
 
 -- ---- what an instruction takes
 module _ (f : List ℕ → Number) (s : List ℕ) (at : ℕ) where
-  takes-by : (t : Bool) → valid (lineAt s at) ≡ t → Takes f s at (cond t (given (f (reading (lineAt s at))) (lineEnd s at)) BadInput)
+  takes-by : (t : Bool) → valid (lineAt s at) ≡ t → Takes f s at (cond t (pushOrSkip (f (reading (lineAt s at))) (lineEnd s at)) BadInput)
   takes-by true e = reads (reading (lineAt s at)) (valid-utf8 (lineAt s at) e) refl
   takes-by false e = bad (λ v. false≢true (sym e ∙ utf8-valid (lineAt s at) (v .0) (v .1))) refl
 

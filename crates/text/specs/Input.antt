@@ -22,12 +22,12 @@ abbrev pub intOf : List ℕ → Number
 intOf cs = parsed (encodes (trimmed cs))
 
 -- "a line either gives a number or the step is skipped": with the place after the line
-unfoldable pub given : Number → ℕ → Taken
-given (Value v) n = Push v n
-given NotANumber n = Skip n
+unfoldable pub pushOrSkip : Number → ℕ → Taken
+pushOrSkip (Value v) n = Push v n
+pushOrSkip NotANumber n = Skip n
 
 -- An instruction that reads f of a line "consumes a line, newline included where there is one"; "BadInput (the line it
 -- would read is not UTF-8)". The number of that stop is `statusOf` of machine's specs/Machine.antt.
 pub data Takes (f : List ℕ → Number) (s : List ℕ) (at : ℕ) (r : Taken) : Type 0 where
-  reads : (cs : List ℕ) → Utf8 (lineAt s at) cs → r ≡ given (f cs) (lineEnd s at) → Takes f s at r
+  reads : (cs : List ℕ) → Utf8 (lineAt s at) cs → r ≡ pushOrSkip (f cs) (lineEnd s at) → Takes f s at r
   bad : (Valid (lineAt s at) → ⊥) → r ≡ BadInput → Takes f s at r

@@ -7,7 +7,7 @@ use lib.Dec.{ltb, eqb}
 use lib.ListN.{length, getD, drop}
 use Rattle.text.specs.Line.{lineAt, lineEnd}
 use Rattle.text.specs.Utf8.{scalars, encodes}
-use Rattle.text.specs.Input.{given}
+use Rattle.text.specs.Input.{pushOrSkip}
 use Rattle.text.specs.declared.number.Number.{Number}
 use Rattle.text.specs.declared.input.Taken.{Taken}
 use Rattle.text.specs.declared.input.Taken.the-variants.{BadInput}
@@ -47,4 +47,4 @@ valid s = scalars (reading s) && same s (encodes (reading s))
 
 -- what an instruction that reads f of a line takes
 unfoldable pub takeOf : (List ℕ → Number) → List ℕ → ℕ → Taken
-takeOf f s at = cond (valid (lineAt s at)) (given (f (reading (lineAt s at))) (lineEnd s at)) BadInput
+takeOf f s at = cond (valid (lineAt s at)) (pushOrSkip (f (reading (lineAt s at))) (lineEnd s at)) BadInput

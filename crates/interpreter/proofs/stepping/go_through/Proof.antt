@@ -16,10 +16,10 @@ use Rattle.interpreter.proofs.stepping.go_through.Tie as tie
 abbrev begin : tie.After-row-cell → tie.Start
 begin c = c .before .before .before .before .before
 
-abbrev cell : tie.After-numbered → tie.After-row-cell
+abbrev cell : tie.After-op-numbered → tie.After-row-cell
 cell c = c .before .before .before .before .before .before .before
 
-abbrev number : tie.After-at-pointers → tie.After-numbered
+abbrev number : tie.After-at-pointers → tie.After-op-numbered
 number c = c .before .before .before .before
 
 -- from what the instruction came to back to it
@@ -49,7 +49,7 @@ went e r q =
     let n = e .before .before .before .before .before in
     subst (Execs _ _ _ _) q
     (rw (
-      n .numbered .ensures,
+      n .op-numbered .ensures,
       e .before .at-pointers .ensures,
       n .before .before .of-number .ensures,
       n .before .instruction-of .ensures,
@@ -82,8 +82,8 @@ of-number-requires c κs = search needs
 instruction-of-requires : tie.Need-instruction-of-requires
 instruction-of-requires c κs = search needs
 
-numbered-requires : tie.Need-numbered-requires
-numbered-requires c κs = search needs
+op-numbered-requires : tie.Need-op-numbered-requires
+op-numbered-requires c κs = search needs
 
 at-pointers-requires : tie.Need-at-pointers-requires
 at-pointers-requires c κs = search needs
@@ -150,7 +150,7 @@ go-through-spec =
     state-of-requires
     of-number-requires
     instruction-of-requires
-    numbered-requires
+    op-numbered-requires
     at-pointers-requires
     exec-requires
     enum-known-next

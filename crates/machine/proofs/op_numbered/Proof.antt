@@ -1,4 +1,4 @@
--- `machine::numbered` meets its contract. Assumes nothing.
+-- `machine::op_numbered` meets its contract. Assumes nothing.
 use mathlib.Core.Path.{_≡_, refl, sym}
 use Prim.Native.Nat.{ℕ, zero, suc, _<_, _≤_}
 use native.Mathlib.Omega.{arith}
@@ -6,14 +6,14 @@ use borrow.Author.Needs.{needs}
 use lib.ListN.{List·getD-eq-default}
 use Rattle.machine.specs.declared.Op.the-variants.{Nothing}
 use Rattle.machine.specs.Machine as Spec
-use Rattle.machine.proofs.numbered.Statement.{statement}
-use Rattle.machine.proofs.numbered.Tie as tie
+use Rattle.machine.proofs.op_numbered.Statement.{statement}
+use Rattle.machine.proofs.op_numbered.Tie as tie
 
 -- past a number that it is not
 past : (k : ℕ) {n : ℕ} → k ≤ n → (n ≡ k → ⊥) → suc k ≤ n
 past k h e = omega arith
 
-none : (n : ℕ) → (0 < n → 18 ≤ n) → Nothing ≡ Spec.numbered n
+none : (n : ℕ) → (0 < n → 18 ≤ n) → Nothing ≡ Spec.opNumbered n
 none zero h = refl
 none (suc m) h = sym (List·getD-eq-default Spec.ops Nothing (h (omega arith)))
 
@@ -91,8 +91,8 @@ returns-18 c =
     let p16 = past 16 p15 (r .0 .1) in
     past 17 p16 (r .1))
 
-pub numbered-spec : {M : Type 1} → statement M
-numbered-spec =
+pub op-numbered-spec : {M : Type 1} → statement M
+op-numbered-spec =
     tie.close
     (tie.spec
     returns
