@@ -13,9 +13,9 @@ use native.Mathlib.Omega.{arith}
 use lib.ListN.{length, getD, set, length-set}
 use lib.Seq.{getD-set-same, getD-set-other}
 use Rattle.cfg.specs.Nodes.{Adds, beside, astray, over, landing, Found}
-use Rattle.cfg.specs.Search.{mark, Room, Visit, pushed, kept, Queued, InGrid, Grounds, Occurs, Waiting, Queue, Onward}
+use Rattle.cfg.specs.Search.{Room, Visit, pushed, kept, Queued, InGrid, Grounds, Occurs, Waiting, Queue, Onward}
+use Rattle.table.specs.Layout.{markOf, rowCell, rowsRoom, markField}
 use Rattle.cfg.specs.Search as search
-use Rattle.table.specs.Layout.{rowCell, rowsRoom, markField}
 use Rattle.table.proofs.Cells.{row-apart}
 use Rattle.region.proofs.Cells.{stored}
 use Rattle.exit.specs.declared.attempt.Way.{Way}
@@ -59,7 +59,7 @@ onward-more a b = record {
   work-length = b .work-length ∙ a .work-length;
 }
 
-pub queue-none : (p : Picture) (map rows work : List ℕ) → length work ≤ 65536 → rowsRoom (length work) ≤ length rows → ((r : ℕ) → mark rows r ≡ 0) → Queue p map rows work 0
+pub queue-none : (p : Picture) (map rows work : List ℕ) → length work ≤ 65536 → rowsRoom (length work) ≤ length rows → ((r : ℕ) → markOf rows r ≡ 0) → Queue p map rows work 0
 queue-none p map rows work few long none = record {
   room = record { few = few; long = long; free = omega (arith, bare-most (length work) rows) };
   waits = λ q h. absurd (omega arith);
@@ -73,7 +73,7 @@ module _ {p : Picture} {map : List ℕ} {q : ℕ} {rows work : List ℕ} {tail :
   cell-in = omega (arith, Q .room .long)
 
   -- a region without a mark is pushed
-  module _ (e : mark rows q ≡ 0) where
+  module _ (e : markOf rows q ≡ 0) where
     abbrev rows₁ : List ℕ
     rows₁ = set rows (rowCell q markField) 1
 
@@ -83,13 +83,13 @@ module _ {p : Picture} {map : List ℕ} {q : ℕ} {rows work : List ℕ} {tail :
     tail-in : tail < length work
     tail-in = omega (arith, Q .room .free, bare-some (length work) rows q low cell-in e)
 
-    now-marked : mark rows₁ q ≡ 1
+    now-marked : markOf rows₁ q ≡ 1
     now-marked = getD-set-same rows (rowCell q markField) 1 0 cell-in
 
-    marks : (r : ℕ) → mark rows r ≡ 1 → mark rows₁ r ≡ 1
+    marks : (r : ℕ) → markOf rows r ≡ 1 → markOf rows₁ r ≡ 1
     marks r m = ⊎-elim (λ a. a .1) (λ a. a .1 ∙ m) (stored rows (rowCell q markField) 1 (rowCell r markField) cell-in)
 
-    back : (r : ℕ) → mark rows₁ r ≡ 1 → (r ≡ q) ⊎ (mark rows r ≡ 1)
+    back : (r : ℕ) → markOf rows₁ r ≡ 1 → (r ≡ q) ⊎ (markOf rows r ≡ 1)
     back r m = ⊎-elim (λ a. inl (omega (arith, a .0))) (λ a. inr (sym (a .1) ∙ m)) (stored rows (rowCell q markField) 1 (rowCell r markField) cell-in)
 
     old : (j : ℕ) → j < tail → getD work₁ j 0 ≡ getD work j 0
@@ -116,7 +116,7 @@ module _ {p : Picture} {map : List ℕ} {q : ℕ} {rows work : List ℕ} {tail :
         (λ k z.
         let w = Q .waits a (omega arith) in
         let y : getD work a 0 ≡ q = sym (old a (omega arith)) ∙ z ∙ at-last b i k in
-        omega (arith, w .marked, e, ap (mark rows) y))
+        omega (arith, w .marked, e, ap (markOf rows) y))
 
     queue₁ : Queue p map rows₁ work₁ (tail + 1)
     queue₁ = record {
@@ -142,7 +142,7 @@ module _ {p : Picture} {map : List ℕ} {q : ℕ} {rows work : List ℕ} {tail :
       work-length = length-set work tail q;
     }
 
-  pub visited : {rows′ work′ : List ℕ} {tail′ : ℕ} → Visit q rows work tail rows′ work′ tail′ → Onward p map rows work tail rows′ work′ tail′ × (mark rows′ q ≡ 1)
+  pub visited : {rows′ work′ : List ℕ} {tail′ : ℕ} → Visit q rows work tail rows′ work′ tail′ → Onward p map rows work tail rows′ work′ tail′ × (markOf rows′ q ≡ 1)
   visited (pushed e) = (onward₁ e, now-marked e)
   visited (kept e) = (onward-none Q, omega (arith, Q .bit q, e))
 
@@ -166,19 +166,19 @@ module _ {p : Picture} {map : List ℕ} (G : Grounds p map) (a b : ℕ) (i : Ins
 
 module _ {p : Picture} {map : List ℕ} (G : Grounds p map) {rows work : List ℕ} {tail : ℕ} (Q : Queue p map rows work tail) (long : length work ≡ codels p) where
   pub queued : {w : Way} {rows′ work′ : List ℕ} {tail′ : ℕ} → InGrid p w → ((q : ℕ) → Adds p map w q → Found p map q) → Queued map (colsOf p) rows work tail w rows′ work′ tail′
-      → Onward p map rows work tail rows′ work′ tail′ × ((q : ℕ) → Adds p map w q → mark rows′ q ≡ 1)
+      → Onward p map rows work tail rows′ work′ tail′ × ((q : ℕ) → Adds p map w q → markOf rows′ q ≡ 1)
   queued i f search.closed = (onward-none Q, λ q d. absurd (not-closed d refl))
   queued i f (search.step {a = a} {b = b} {rows′ = rows₁} v) =
       let x = visited Q (f _ beside) (region-occurs G a b i) (omega (arith, region-low G a b i)) v in
       (x .0, λ q d. step-marks a b rows₁ (x .1) q d)
     where
-      step-marks : (a b : ℕ) (rows′ : List ℕ) → mark rows′ (getD map (a * colsOf p + b) 0) ≡ 1 → (q : ℕ) → Adds p map (Step a b) q → mark rows′ q ≡ 1
+      step-marks : (a b : ℕ) (rows′ : List ℕ) → markOf rows′ (getD map (a * colsOf p + b) 0) ≡ 1 → (q : ℕ) → Adds p map (Step a b) q → markOf rows′ q ≡ 1
       step-marks a b rows′ m q beside = m
   queued i f (search.astray {a = a} {b = b} {rows′ = rows₁} v) =
       let x = visited Q (f _ astray) (region-occurs G a b i) (omega (arith, region-low G a b i)) v in
       (x .0, λ q d. astray-marks a b rows₁ (x .1) q d)
     where
-      astray-marks : (a b : ℕ) (rows′ : List ℕ) → mark rows′ (getD map (a * colsOf p + b) 0) ≡ 1 → (q : ℕ) → Adds p map (Astray a b) q → mark rows′ q ≡ 1
+      astray-marks : (a b : ℕ) (rows′ : List ℕ) → markOf rows′ (getD map (a * colsOf p + b) 0) ≡ 1 → (q : ℕ) → Adds p map (Astray a b) q → markOf rows′ q ≡ 1
       astray-marks a b rows′ m q astray = m
   queued i f (search.glide {a = a} {b = b} {c = c} {d = d} {t = t} {work′ = work₁} {rows″ = rows₂} v u) =
       let x = visited Q (f _ over) (region-occurs G a b (i .0)) (omega (arith, region-low G a b (i .0))) v in
@@ -186,7 +186,7 @@ module _ {p : Picture} {map : List ℕ} (G : Grounds p map) {rows work : List �
       let y = visited (x .0 .queue) (f _ landing) (region-occurs G c d (i .1)) low u in
       (onward-more (x .0) (y .0), λ q e. glide-marks a b c d t rows₂ (y .0 .marks _ (x .1)) (y .1) q e)
     where
-      glide-marks : (a b c d : ℕ) (t : _) (rows′ : List ℕ) → mark rows′ (getD map (a * colsOf p + b) 0) ≡ 1 → mark rows′ (getD map (c * colsOf p + d) 0) ≡ 1 → (q : ℕ) → Adds p map (Glide a b c d t) q → mark rows′ q ≡ 1
+      glide-marks : (a b c d : ℕ) (t : _) (rows′ : List ℕ) → markOf rows′ (getD map (a * colsOf p + b) 0) ≡ 1 → markOf rows′ (getD map (c * colsOf p + d) 0) ≡ 1 → (q : ℕ) → Adds p map (Glide a b c d t) q → markOf rows′ q ≡ 1
       glide-marks a b c d t rows′ m n q over = m
       glide-marks a b c d t rows′ m n q landing = n
 

@@ -13,8 +13,8 @@ use native.Mathlib.Omega.{arith}
 use lib.ListN.{length, getD}
 use Rattle.cfg.specs.Nodes.{Adds, Found, entry, next}
 use Rattle.cfg.specs.Table.{Marks, is, none}
-use Rattle.cfg.specs.Search.{mark, Visit, Queue, Onward, Settled, Several, Leaving, Taken, Ready, Searched}
-use Rattle.table.specs.Layout.{markField, fieldAt, exitAt}
+use Rattle.cfg.specs.Search.{Visit, Queue, Onward, Settled, Several, Leaving, Taken, Ready, Searched}
+use Rattle.table.specs.Layout.{markOf, markField, fieldAt, exitAt}
 use Rattle.picture.specs.Picture.{Picture, codels}
 use Rattle.picture.proofs.Codels.{first-in, cols-pos}
 use Rattle.flow.specs.Pointer.{stateNumber}
@@ -29,7 +29,7 @@ use Rattle.cfg.proofs.Trying.{settled-on}
 pub record Searching (p : Picture) (map rows₀ exits₀ work₀ : List ℕ) (head : ℕ) (rows exits work : List ℕ) (tail : ℕ) : Type 0 where
   pub queue : Queue p map rows work tail
   pub inside : head ≤ tail
-  pub start : mark rows 0 ≡ 1
+  pub start : markOf rows 0 ≡ 1
   pub settled : (q : ℕ) → q < head → (s : ℕ) → s < 8 → Settled p map rows (getD work q 0) s (exitAt exits (getD work q 0) s)
   pub same : (r s : ℕ) → s < 8 → ((q : ℕ) → q < head → getD work q 0 ≢ r) → exitAt exits r s ≡ exitAt exits₀ r s
   pub cells : (r f : ℕ) → f < 5 → f ≢ markField → fieldAt rows r f ≡ fieldAt rows₀ r f
@@ -45,7 +45,7 @@ queue-first {p} {map} {rows} {exits} {work} R =
 pub first-low : {p : Picture} {map rows exits work : List ℕ} → Ready p map rows exits work → 0 < length work
 first-low R = omega (arith, R .work-long, first-in (R .grounds .sound))
 
-first-visited : {p : Picture} {map rows exits work rows₀ work₀ : List ℕ} {tail : ℕ} → Ready p map rows exits work → Visit 0 rows work 0 rows₀ work₀ tail → Onward p map rows work 0 rows₀ work₀ tail × (mark rows₀ 0 ≡ 1)
+first-visited : {p : Picture} {map rows exits work rows₀ work₀ : List ℕ} {tail : ℕ} → Ready p map rows exits work → Visit 0 rows work 0 rows₀ work₀ tail → Onward p map rows work 0 rows₀ work₀ tail × (markOf rows₀ 0 ≡ 1)
 first-visited R v =
     visited (queue-first R) entry (record { codel = 0; inside = omega (arith, R .grounds .long, first-in (R .grounds .sound)); own = R .first }) (first-low R) v
 
@@ -125,13 +125,13 @@ module _ {p : Picture} {map rowsᵉ exitsᵉ workᵉ rows₀ work₀ : List ℕ}
   -- the queue is empty
   module _ (empty : tail ≤ head) where
     -- a marked region's exits are settled
-    done : (r : ℕ) → mark rows r ≡ 1 → (s : ℕ) → s < 8 → Settled p map rows r s (exitAt exits r s)
+    done : (r : ℕ) → markOf rows r ≡ 1 → (s : ℕ) → s < 8 → Settled p map rows r s (exitAt exits r s)
     done r m s h =
         let (q, i, e) = S .queue .seen r m in
         rw e at (S .settled q (omega arith) s h)
 
     -- every found region is marked
-    complete : {r : ℕ} → Found p map r → mark rows r ≡ 1
+    complete : {r : ℕ} → Found p map r → markOf rows r ≡ 1
     complete entry = S .start
     complete (next {r = r} {q = q} {s = s} f v t a) =
         let d = done r (complete f) (stateNumber s) (number-small s v) in
@@ -139,17 +139,17 @@ module _ {p : Picture} {map rowsᵉ exitsᵉ workᵉ rows₀ work₀ : List ℕ}
         d .marked q (subst (λ (x : _). Adds p map x q) e a)
 
     -- every marked region is found
-    sound : (r : ℕ) → mark rows r ≡ 1 → Found p map r
+    sound : (r : ℕ) → markOf rows r ≡ 1 → Found p map r
     sound r m =
         let (q, i, e) = S .queue .seen r m in
         subst (Found p map) e (S .queue .waits q i .found)
 
-    marks : (r : ℕ) → Marks (Found p map r) (mark rows r)
+    marks : (r : ℕ) → Marks (Found p map r) (markOf rows r)
     marks r =
-        by-cases (ℕ-discrete (mark rows r) 1)
+        by-cases (ℕ-discrete (markOf rows r) 1)
         (λ e. subst (Marks (Found p map r)) (sym e) (is (sound r e)))
         (λ d.
-        let z : mark rows r ≡ 0 = omega (arith, S .queue .bit r) in
+        let z : markOf rows r ≡ 0 = omega (arith, S .queue .bit r) in
         subst (Marks (Found p map r)) (sym z) (none (λ f. d (complete f))))
 
     pub search-end : Searched p map rowsᵉ exitsᵉ rows exits

@@ -19,8 +19,8 @@ use Rattle.base.proofs.Over.{filled-zero}
 use Rattle.flow.specs.Pointer.{ofNumber}
 use Rattle.cfg.specs.Nodes.{Adds, beside, astray, over, landing, Found, entry, next, Node}
 use Rattle.cfg.specs.Table.{Marks, is, none, Exit, no-node, Builds}
-use Rattle.cfg.specs.Search.{mark, InGrid, Grounds, Occurs, Begun, Ready, Searched, isNode, Kept, stays, goes, Cleared}
-use Rattle.table.specs.Layout.{rowCell, colourField, sizeField, rowField, columnField, markField, exitCell, rowsRoom, exitsRoom, fieldAt, exitAt, rowAt, blank}
+use Rattle.cfg.specs.Search.{InGrid, Grounds, Occurs, Begun, Ready, Searched, isNode, Kept, stays, goes, Cleared}
+use Rattle.table.specs.Layout.{markOf, rowCell, colourField, sizeField, rowField, columnField, markField, exitCell, rowsRoom, exitsRoom, fieldAt, exitAt, rowAt, blank}
 use Rattle.table.proofs.Cells.{row-past, same-row, blank-fields}
 use Rattle.picture.specs.Picture.{Picture, rowsOf, colsOf, codels, codelColour}
 use Rattle.exit.specs.declared.attempt.Way.{Way}
@@ -70,7 +70,7 @@ module _ {p : Picture} {map : List ℕ} {n : ℕ} {rows : List ℕ} (B : Begun p
       (λ i. blank-fields rows r (B .table .rest r h i) f k)
       (λ i. let past = row-past (codels p) r f k (omega arith) in beyond rows (rowCell r f) (omega (arith, B .rows-long)))
 
-  unmarked : (r : ℕ) → mark rows r ≡ 0
+  unmarked : (r : ℕ) → markOf rows r ≡ 0
   unmarked r = by-cases (decLt r n) (λ h. B .table .unmarked r h) (λ h. rest-at r markField (omega arith) (omega arith))
 
   pub ready : {exits work : List ℕ} → AllKept map (replicate (exitsRoom (codels p)) 0) exits (rowsOf p) (colsOf p) 8 → length exits ≡ exitsRoom (codels p) → length work ≡ codels p → Ready p map rows exits work
@@ -127,18 +127,18 @@ module _ {p : Picture} {map : List ℕ} {n : ℕ} {rows : List ℕ} (B : Begun p
     unmarked-not (is f) e g = omega arith
     unmarked-not (none f) e g = f g
 
-    tests : (r : ℕ) → isNode rows′ r ≡ true → (fieldAt rows′ r colourField ≢ white) × (mark rows′ r ≢ 0)
+    tests : (r : ℕ) → isNode rows′ r ≡ true → (fieldAt rows′ r colourField ≢ white) × (markOf rows′ r ≢ 0)
     tests r e = first (eqb (fieldAt rows′ r colourField) 19) refl e
       where
-        second : (b : Bool) → eqb (mark rows′ r) 0 ≡ b → not b ≡ true → mark rows′ r ≢ 0
+        second : (b : Bool) → eqb (markOf rows′ r) 0 ≡ b → not b ≡ true → markOf rows′ r ≢ 0
         second true h k = absurd (true≢false (sym k))
         second false h k = eqb-false _ _ h
 
-        first : (b : Bool) → eqb (fieldAt rows′ r colourField) 19 ≡ b → cond b false (not (eqb (mark rows′ r) 0)) ≡ true → (fieldAt rows′ r colourField ≢ white) × (mark rows′ r ≢ 0)
+        first : (b : Bool) → eqb (fieldAt rows′ r colourField) 19 ≡ b → cond b false (not (eqb (markOf rows′ r) 0)) ≡ true → (fieldAt rows′ r colourField ≢ white) × (markOf rows′ r ≢ 0)
         first true h k = absurd (true≢false (sym k))
-        first false h k = (eqb-false _ _ h, second (eqb (mark rows′ r) 0) refl k)
+        first false h k = (eqb-false _ _ h, second (eqb (markOf rows′ r) 0) refl k)
 
-    is-node : (r : ℕ) → r < n → isNode rows′ r ≡ true → Node p map r × (mark rows′ r ≡ 1)
+    is-node : (r : ℕ) → r < n → isNode rows′ r ≡ true → Node p map r × (markOf rows′ r ≡ 1)
     is-node r h e =
         let t = tests r e in
         let f = marked-is (S .marks r) (t .1) in
@@ -147,11 +147,11 @@ module _ {p : Picture} {map : List ℕ} {n : ℕ} {rows : List ℕ} (B : Begun p
     never-node : (r : ℕ) → r < n → isNode rows′ r ≡ false → Node p map r → ⊥
     never-node r h e N = first (eqb (fieldAt rows′ r colourField) 19) refl e
       where
-        second : (b : Bool) → eqb (mark rows′ r) 0 ≡ b → not b ≡ false → ⊥
+        second : (b : Bool) → eqb (markOf rows′ r) 0 ≡ b → not b ≡ false → ⊥
         second true m k = unmarked-not (S .marks r) (eqb-true _ _ m) (N .found)
         second false m k = true≢false k
 
-        first : (b : Bool) → eqb (fieldAt rows′ r colourField) 19 ≡ b → cond b false (not (eqb (mark rows′ r) 0)) ≡ false → ⊥
+        first : (b : Bool) → eqb (fieldAt rows′ r colourField) 19 ≡ b → cond b false (not (eqb (markOf rows′ r) 0)) ≡ false → ⊥
         first true m k =
             let t = B .table .rows r h in
             N .coloured (record {
@@ -160,9 +160,9 @@ module _ {p : Picture} {map : List ℕ} {n : ℕ} {rows : List ℕ} (B : Begun p
               own = t .is-first .has;
               colour = sym (colour-cell r h (t .first) (t .is-first .inside) (t .is-first .has)) ∙ eqb-true _ _ m;
             })
-        first false m k = second (eqb (mark rows′ r) 0) refl k
+        first false m k = second (eqb (markOf rows′ r) 0) refl k
 
-    node-mark : (r : ℕ) → r < n → Kept r rows′ exits′ rows″ exits″ → Marks (Node p map r) (mark rows″ r)
+    node-mark : (r : ℕ) → r < n → Kept r rows′ exits′ rows″ exits″ → Marks (Node p map r) (markOf rows″ r)
     node-mark r h (stays e m x) = let d = is-node r h e in subst (Marks (Node p map r)) (sym (m ∙ d .1)) (is (d .0))
     node-mark r h (goes e m x) = subst (Marks (Node p map r)) (sym m) (none (never-node r h e))
 
@@ -192,10 +192,10 @@ module _ {p : Picture} {map : List ℕ} {n : ℕ} {rows : List ℕ} (B : Begun p
       field-zero : (f : ℕ) → f < 5 → f ≢ markField → fieldAt rows″ r f ≡ 0
       field-zero f k d = field r f k d ∙ rest-at r f h k
 
-      mark-zero : mark rows″ r ≡ 0
+      mark-zero : markOf rows″ r ≡ 0
       mark-zero =
           C .rows-same r markField (omega arith) (λ l. absurd (omega arith))
-          ∙ by-cases (ℕ-discrete (mark rows′ r) 0) (λ e. e) (λ d. absurd (not-found h (marked-is (S .marks r) d .0)))
+          ∙ by-cases (ℕ-discrete (markOf rows′ r) 0) (λ e. e) (λ d. absurd (not-found h (marked-is (S .marks r) d .0)))
 
       row-zero : rowAt rows″ r ≡ blank
       row-zero =

@@ -15,8 +15,8 @@ use Rattle.flow.specs.Pointer.{Valid, stateNumber, ofNumber}
 use Rattle.flow.proofs.Order.{valid-number}
 use Rattle.flow.specs.declared.PointerState.{PointerState}
 use Rattle.cfg.specs.Nodes.{Found, next}
-use Rattle.cfg.specs.Search.{wayNumber, mark, Queued, InGrid, Grounds, Queue, Settled, Tries, Several, Taken}
-use Rattle.table.specs.Layout.{exitCell, exitsRoom, exitAt}
+use Rattle.cfg.specs.Search.{wayNumber, Queued, InGrid, Grounds, Queue, Settled, Tries, Several, Taken}
+use Rattle.table.specs.Layout.{markOf, exitCell, exitsRoom, exitAt}
 use Rattle.table.proofs.Cells.{exit-apart}
 use Rattle.exit.specs.declared.attempt.Way.{Way}
 use Rattle.exit.specs.declared.attempt.Way.the-variants.{Step, Glide}
@@ -58,7 +58,7 @@ tries {p} {map} {r} {s} {i} {v} {w} G f Q long h l a inside e d =
 pub several-none : {p : Picture} {map : List ℕ} (r : ℕ) {rows : List ℕ} (exits : List ℕ) {work : List ℕ} {tail : ℕ} → Queue p map rows work tail → Several p map r 0 rows exits work tail rows exits work tail
 several-none r exits Q = record { onward = onward-none Q; settled = λ s h. absurd (omega arith); same = λ q s h d. refl; exits-length = refl }
 
-pub settled-on : {p : Picture} {map rows rows′ : List ℕ} {r s x : ℕ} → ((q : ℕ) → mark rows q ≡ 1 → mark rows′ q ≡ 1) → Settled p map rows r s x → Settled p map rows′ r s x
+pub settled-on : {p : Picture} {map rows rows′ : List ℕ} {r s x : ℕ} → ((q : ℕ) → markOf rows q ≡ 1 → markOf rows′ q ≡ 1) → Settled p map rows r s x → Settled p map rows′ r s x
 settled-on m t = record { is = t .is; marked = λ q d. m q (t .marked q d) }
 
 module _ {p : Picture} {map : List ℕ} {r k : ℕ} {rows exits work : List ℕ} {tail : ℕ} {rows′ exits′ work′ : List ℕ} {tail′ : ℕ} {rows″ exits″ work″ : List ℕ} {tail″ : ℕ}

@@ -14,7 +14,7 @@ use Rattle.cfg.specs.Table.{Marks}
 use Rattle.colour.specs.Palette.{white}
 use Rattle.colour.specs.Decode.{decodeOf}
 use Rattle.picture.specs.Picture.{Picture, Inside, rowsOf, colsOf, codels, colourAt, codelColour, Sound}
-use Rattle.table.specs.Layout.{colourField, markField, rowCell, exitCell, rowsRoom, exitsRoom, fieldAt, exitAt}
+use Rattle.table.specs.Layout.{colourField, markField, rowCell, exitCell, rowsRoom, exitsRoom, fieldAt, exitAt, markOf}
 use Rattle.region.specs.Tally.{more}
 use Rattle.region.specs.Grid.{gridOf}
 use Rattle.region.specs.Region.{IsMap}
@@ -25,14 +25,10 @@ use Rattle.exit.specs.Leaving.{LeavesBy}
 use Rattle.exit.specs.Opens.{regionAt, Tried}
 use Rattle.table.specs.ExitNumber.{exitNumber}
 
--- region r's mark
-abbrev pub mark : List ℕ → ℕ → ℕ
-mark rows r = fieldAt rows r markField
-
 -- how many of the first n regions have no mark
 unfoldable pub bare : ℕ → List ℕ → ℕ
 bare zero rows = 0
-bare (suc n) rows = more (eqb (mark rows n) 0) (bare n rows)
+bare (suc n) rows = more (eqb (markOf rows n) 0) (bare n rows)
 
 -- a row for each cell of the work slice, and room in it for each region without a mark
 pub record Room (rows work : List ℕ) (tail : ℕ) : Type 0 where
@@ -42,8 +38,8 @@ pub record Room (rows work : List ℕ) (tail : ℕ) : Type 0 where
 
 -- region q is marked and queued, where it had no mark
 pub data Visit (q : ℕ) (rows work : List ℕ) (tail : ℕ) : List ℕ → List ℕ → ℕ → Type 0 where
-  pushed : mark rows q ≡ 0 → Visit q rows work tail (set rows (rowCell q markField) 1) (set work tail q) (tail + 1)
-  kept : mark rows q ≢ 0 → Visit q rows work tail rows work tail
+  pushed : markOf rows q ≡ 0 → Visit q rows work tail (set rows (rowCell q markField) 1) (set work tail q) (tail + 1)
+  kept : markOf rows q ≢ 0 → Visit q rows work tail rows work tail
 
 -- the regions that a way adds are visited
 pub data Queued (map : List ℕ) (cols : ℕ) (rows work : List ℕ) (tail : ℕ) : Way → List ℕ → List ℕ → ℕ → Type 0 where
@@ -78,7 +74,7 @@ pub record Occurs (map : List ℕ) (r : ℕ) : Type 0 where
 -- a region that was queued
 pub record Waiting (p : Picture) (map rows : List ℕ) (r : ℕ) : Type 0 where
   pub occurs : Occurs map r
-  pub marked : mark rows r ≡ 1
+  pub marked : markOf rows r ≡ 1
   pub found : Found p map r
 
 -- the queue, with what it has held before: each marked region once
@@ -86,14 +82,14 @@ pub record Queue (p : Picture) (map rows work : List ℕ) (tail : ℕ) : Type 0 
   pub room : Room rows work tail
   pub waits : (q : ℕ) → q < tail → Waiting p map rows (getD work q 0)
   pub distinct : (a b : ℕ) → a < b → b < tail → getD work a 0 ≢ getD work b 0
-  pub bit : (r : ℕ) → mark rows r ≤ 1
-  pub seen : (r : ℕ) → mark rows r ≡ 1 → (q : ℕ) × (q < tail) × (getD work q 0 ≡ r)
+  pub bit : (r : ℕ) → markOf rows r ≤ 1
+  pub seen : (r : ℕ) → markOf rows r ≡ 1 → (q : ℕ) × (q < tail) × (getD work q 0 ≡ r)
 
 -- the queue has grown: marks and what is queued stay, and no other field of a row changes
 pub record Onward (p : Picture) (map rows work : List ℕ) (tail : ℕ) (rows′ work′ : List ℕ) (tail′ : ℕ) : Type 0 where
   pub queue : Queue p map rows′ work′ tail′
   pub on : tail ≤ tail′
-  pub marks : (r : ℕ) → mark rows r ≡ 1 → mark rows′ r ≡ 1
+  pub marks : (r : ℕ) → markOf rows r ≡ 1 → markOf rows′ r ≡ 1
   pub old : (q : ℕ) → q < tail → getD work′ q 0 ≡ getD work q 0
   pub cells : (r f : ℕ) → f < 5 → f ≢ markField → fieldAt rows′ r f ≡ fieldAt rows r f
   pub rows-length : length rows′ ≡ length rows
@@ -115,7 +111,7 @@ pub record Number (p : Picture) (map : List ℕ) (r s x : ℕ) : Type 0 where
 -- and what the attempt adds is marked
 pub record Settled (p : Picture) (map rows : List ℕ) (r s x : ℕ) : Type 0 where
   pub is : Number p map r s x
-  pub marked : (q : ℕ) → Adds p map (is .way) q → mark rows q ≡ 1
+  pub marked : (q : ℕ) → Adds p map (is .way) q → markOf rows q ≡ 1
 
 -- state s of region r is settled
 pub record Tries (p : Picture) (map : List ℕ) (r s : ℕ) (rows exits work : List ℕ) (tail : ℕ) (rows′ exits′ work′ : List ℕ) (tail′ : ℕ) : Type 0 where
@@ -151,24 +147,24 @@ pub record Ready (p : Picture) (map rows exits work : List ℕ) : Type 0 where
   pub exits-long : length exits ≡ exitsRoom (codels p)
   pub work-long : length work ≡ codels p
   pub first : getD map 0 0 ≡ 0
-  pub unmarked : (r : ℕ) → mark rows r ≡ 0
+  pub unmarked : (r : ℕ) → markOf rows r ≡ 0
   pub leaving : (j : ℕ) → j < length map → Leaving p map exits (getD map j 0)
 
 -- what the search leaves: the found regions are marked and their exits are settled
 pub record Searched (p : Picture) (map rows exits rows′ exits′ : List ℕ) : Type 0 where
-  pub marks : (r : ℕ) → Marks (Found p map r) (mark rows′ r)
+  pub marks : (r : ℕ) → Marks (Found p map r) (markOf rows′ r)
   pub settled : (r : ℕ) → Found p map r → (s : ℕ) → s < 8 → Number p map r s (exitAt exits′ r s)
   pub same : (r s : ℕ) → s < 8 → (Found p map r → ⊥) → exitAt exits′ r s ≡ exitAt exits r s
   pub cells : (r f : ℕ) → f < 5 → f ≢ markField → fieldAt rows′ r f ≡ fieldAt rows r f
 
 -- a row of a region that is marked and not white
 abbrev pub isNode : List ℕ → ℕ → Bool
-isNode rows r = cond (eqb (fieldAt rows r colourField) white) false (not (eqb (mark rows r) 0))
+isNode rows r = cond (eqb (fieldAt rows r colourField) white) false (not (eqb (markOf rows r) 0))
 
 -- region r's mark and exits are kept where it is a node, and 0 where it is none
 pub data Kept (r : ℕ) (rows exits rows′ exits′ : List ℕ) : Type 0 where
-  stays : isNode rows r ≡ true → mark rows′ r ≡ mark rows r → ((s : ℕ) → s < 8 → exitAt exits′ r s ≡ exitAt exits r s) → Kept r rows exits rows′ exits′
-  goes : isNode rows r ≡ false → mark rows′ r ≡ 0 → ((s : ℕ) → s < 8 → exitAt exits′ r s ≡ 0) → Kept r rows exits rows′ exits′
+  stays : isNode rows r ≡ true → markOf rows′ r ≡ markOf rows r → ((s : ℕ) → s < 8 → exitAt exits′ r s ≡ exitAt exits r s) → Kept r rows exits rows′ exits′
+  goes : isNode rows r ≡ false → markOf rows′ r ≡ 0 → ((s : ℕ) → s < 8 → exitAt exits′ r s ≡ 0) → Kept r rows exits rows′ exits′
 
 -- one region is kept or not, and nothing else changes
 pub record Keeps (r : ℕ) (rows exits rows′ exits′ : List ℕ) : Type 0 where

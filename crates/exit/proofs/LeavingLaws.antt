@@ -9,7 +9,7 @@ use borrow.Author.Tests.{ltb-true, ltb-false, lt-ltb, le-ltb}
 use lib.Dec.{ltb}
 use Rattle.flow.specs.Pointer.{Valid}
 use Rattle.flow.specs.declared.PointerState.{PointerState}
-use Rattle.exit.specs.Leaving.{behind, sideOf, more, reach, beats}
+use Rattle.exit.specs.Leaving.{behind, sideOf, further, reach, beats}
 
 -- ---- two pairs of distances
 
@@ -20,7 +20,7 @@ More a b a′ b′ = (a′ < a) ⊎ ((a ≡ a′) × (b′ < b))
 abbrev pub NotMore : ℕ → ℕ → ℕ → ℕ → Type 0
 NotMore a b a′ b′ = (a < a′) ⊎ ((a ≡ a′) × (b ≤ b′))
 
-is-more : (a b a′ b′ : ℕ) → more a b a′ b′ ≡ true → More a b a′ b′
+is-more : (a b a′ b′ : ℕ) → further a b a′ b′ ≡ true → More a b a′ b′
 is-more a b a′ b′ e = first (ltb a′ a) refl e
   where
     second : a ≤ a′ → (t : Bool) → ltb a a′ ≡ t → cond t false (ltb b′ b) ≡ true → More a b a′ b′
@@ -31,7 +31,7 @@ is-more a b a′ b′ e = first (ltb a′ a) refl e
     first true h e = inl (ltb-true a′ a h)
     first false h e = second (ltb-false a′ a h) (ltb a a′) refl e
 
-not-more : (a b a′ b′ : ℕ) → more a b a′ b′ ≡ false → NotMore a b a′ b′
+not-more : (a b a′ b′ : ℕ) → further a b a′ b′ ≡ false → NotMore a b a′ b′
 not-more a b a′ b′ e = first (ltb a′ a) refl e
   where
     second : a ≤ a′ → (t : Bool) → ltb a a′ ≡ t → cond t false (ltb b′ b) ≡ false → NotMore a b a′ b′
@@ -43,10 +43,10 @@ not-more a b a′ b′ e = first (ltb a′ a) refl e
     first false h e = second (ltb-false a′ a h) (ltb a a′) refl e
 
 -- and back: what is not more is not found to be
-more-false : (a b a′ b′ : ℕ) → (More a b a′ b′ → ⊥) → more a b a′ b′ ≡ false
-more-false a b a′ b′ h = go (more a b a′ b′) refl
+more-false : (a b a′ b′ : ℕ) → (More a b a′ b′ → ⊥) → further a b a′ b′ ≡ false
+more-false a b a′ b′ h = go (further a b a′ b′) refl
   where
-    go : (t : Bool) → more a b a′ b′ ≡ t → more a b a′ b′ ≡ false
+    go : (t : Bool) → further a b a′ b′ ≡ t → further a b a′ b′ ≡ false
     go true e = absurd (h (is-more a b a′ b′ e))
     go false e = e
 
@@ -74,15 +74,15 @@ level a b p q (inr f) (inl g) = omega arith
 level a b p q (inr f) (inr g) = omega arith
 
 -- the test where its parts are known
-more-first : (a b a′ b′ : ℕ) → a′ < a → more a b a′ b′ ≡ true
+more-first : (a b a′ b′ : ℕ) → a′ < a → further a b a′ b′ ≡ true
 more-first a b a′ b′ h = simp (lt-ltb a′ a h)
 
-more-not : (a b a′ b′ : ℕ) → a < a′ → more a b a′ b′ ≡ false
+more-not : (a b a′ b′ : ℕ) → a < a′ → further a b a′ b′ ≡ false
 more-not a b a′ b′ h =
     let k : a ≤ a′ = omega arith in
     simp (le-ltb a′ a k, lt-ltb a a′ h)
 
-more-second : (a b a′ b′ : ℕ) → a ≤ a′ → a′ ≤ a → more a b a′ b′ ≡ ltb b′ b
+more-second : (a b a′ b′ : ℕ) → a ≤ a′ → a′ ≤ a → further a b a′ b′ ≡ ltb b′ b
 more-second a b a′ b′ h k = simp (le-ltb a′ a h, le-ltb a a′ k)
 
 -- ---- the same of codels

@@ -21,8 +21,8 @@ abbrev pub sideOf : PointerState → ℕ
 sideOf s = (s .dp + 3 + 2 * s .cc) % 4
 
 -- of two pairs of distances the first decides, and the second where the first are equal
-abbrev pub more : ℕ → ℕ → ℕ → ℕ → Bool
-more a b a′ b′ = cond (ltb a′ a) true (cond (ltb a a′) false (ltb b′ b))
+abbrev pub further : ℕ → ℕ → ℕ → ℕ → Bool
+further a b a′ b′ = cond (ltb a′ a) true (cond (ltb a a′) false (ltb b′ b))
 
 -- how far codel i, counted row by row, lies toward d
 abbrev pub reach : ℕ → ℕ → ℕ → ℕ → ℕ
@@ -31,7 +31,7 @@ reach rows cols d i = behind rows cols d (i / cols) (i % cols)
 -- codel i lies further toward dp than codel j, or as far and further toward cc
 unfoldable pub beats : ℕ → ℕ → PointerState → ℕ → ℕ → Bool
 beats rows cols s i j =
-    more (reach rows cols (s .dp) i) (reach rows cols (sideOf s) i) (reach rows cols (s .dp) j) (reach rows cols (sideOf s) j)
+    further (reach rows cols (s .dp) i) (reach rows cols (sideOf s) i) (reach rows cols (s .dp) j) (reach rows cols (sideOf s) j)
 
 -- codel i is of the region, and none of the first n codels that are of the region beats it
 pub record Furthest (map : List ℕ) (rows cols : ℕ) (s : PointerState) (n region i : ℕ) : Type 0 where

@@ -15,7 +15,8 @@ use Rattle.machine.specs.declared.Stop.{Stop}
 use Rattle.machine.specs.declared.Stop.the-variants.{NeedsInput, Completed}
 use Rattle.machine.specs.Machine.{Given, exec}
 use Rattle.machine.specs.Held.{Slices, Stands, outOf, After as Left, Execs, atPointers}
-use Rattle.interpreter.specs.Table.{pointersOf, opOf, sizeOf, tried, openFrom, exitOf, Good}
+use Rattle.interpreter.specs.Table.{pointersOf, opOf, tried, openFrom, exitOf, Good}
+use Rattle.table.specs.Layout.{sizeOf}
 use Rattle.interpreter.specs.Run.{arrive, through, stepOf}
 use Rattle.interpreter.specs.Outcome.{jobOf}
 use Rattle.interpreter.specs.Resume.{machineOf}

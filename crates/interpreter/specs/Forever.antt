@@ -7,8 +7,8 @@ use lib.Dec.{eqb}
 use Rattle.base.specs.Numbers.{Numbers, numbers, Row, row, first}
 use Rattle.interpreter.specs.declared.Forever.{Forever}
 use Rattle.interpreter.specs.declared.Forever.the-variants.{Refused, Yes, No}
-use Rattle.interpreter.specs.Table.{markOf, every, wrongTable}
-use Rattle.table.specs.Layout.{exitAt}
+use Rattle.interpreter.specs.Table.{every, wrongTable}
+use Rattle.table.specs.Layout.{exitAt, markOf}
 
 -- all eight exits of a region are 0
 abbrev pub closed : List ℕ → ℕ → Bool

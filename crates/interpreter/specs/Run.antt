@@ -8,7 +8,8 @@ use Rattle.machine.specs.declared.Stop.{Stop}
 use Rattle.machine.specs.declared.Stop.the-variants.{Completed, MaxSteps, NeedsInput}
 use Rattle.machine.specs.Machine.{Given, RunRoom, Effect, Out, keeps, stops, exec, fitting, withPointers}
 use Rattle.machine.specs.Place.{Machine, start, End}
-use Rattle.interpreter.specs.Table.{pointersOf, opOf, sizeOf, exitOf}
+use Rattle.interpreter.specs.Table.{pointersOf, opOf, exitOf}
+use Rattle.table.specs.Layout.{sizeOf}
 use Rattle.table.specs.ExitNumber.{targetOf}
 
 -- a run: the table, what is given besides, and the room of the stack and of the outputs

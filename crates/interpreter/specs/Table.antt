@@ -9,7 +9,7 @@ use Rattle.flow.specs.declared.PointerState.{PointerState}
 use Rattle.flow.specs.Pointer.{stateNumber, ofNumber, attemptOf}
 use Rattle.machine.specs.declared.Op.{Op}
 use Rattle.machine.specs.Machine.{opNumbered}
-use Rattle.table.specs.Layout.{sizeField, markField, fieldAt, exitAt, rowsRoom, exitsRoom}
+use Rattle.table.specs.Layout.{exitAt, markOf, rowsRoom, exitsRoom}
 use Rattle.table.specs.ExitNumber.{targetOf, stateOf, instructionOf, largestExit}
 
 -- the pointers and the instruction of an exit
@@ -18,13 +18,6 @@ pointersOf w = ofNumber (stateOf w)
 
 abbrev pub opOf : ℕ → Op
 opOf w = opNumbered (instructionOf w)
-
--- a region's size, and its node mark
-abbrev pub sizeOf : List ℕ → ℕ → ℕ
-sizeOf rows region = fieldAt rows region sizeField
-
-abbrev pub markOf : List ℕ → ℕ → ℕ
-markOf rows region = fieldAt rows region markField
 
 -- the exit of a region in the state tried k-th
 abbrev pub tried : List ℕ → ℕ → PointerState → ℕ → ℕ

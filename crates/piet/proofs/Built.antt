@@ -22,7 +22,7 @@ use Rattle.piet.specs.Follows.{Follows}
 use Rattle.colour.specs.Palette.{white}
 use Rattle.picture.specs.Picture.{Picture, codels, Sound}
 use Rattle.picture.proofs.Codels.{first-in}
-use Rattle.table.specs.Layout.{rowCell, sizeField, markField, fieldAt, exitCell, exitAt, rowsRoom, exitsRoom}
+use Rattle.table.specs.Layout.{rowCell, sizeField, markField, fieldAt, exitCell, exitAt, rowsRoom, exitsRoom, markOf}
 use Rattle.table.specs.ExitNumber.{targetOf, largestExit}
 use Rattle.table.proofs.Cells.{row-in, exit-in}
 use Rattle.region.specs.Grid.{gridOf}
@@ -36,7 +36,7 @@ use Rattle.cfg.proofs.Leads.{exit-fits}
 use Rattle.interpreter.specs.declared.Ended.{Ended}
 use Rattle.interpreter.specs.declared.Ran.{Ran}
 use Rattle.interpreter.specs.declared.Ran.the-variants.{Finished}
-use Rattle.interpreter.specs.Table.{wrongMark, wrongExit, wrongExits, validOf, markOf}
+use Rattle.interpreter.specs.Table.{wrongMark, wrongExit, wrongExits, validOf}
 use Rattle.interpreter.specs.Outcome.{Outcome, endedOf, slicesOf, endOf}
 use Rattle.interpreter.specs.Resume.{Started, Resumed}
 use Rattle.interpreter.proofs.ValidLaws.{any-nowhere}

@@ -30,7 +30,7 @@ use Rattle.exit.specs.declared.slide.Slid.the-variants.{Landed}
 use Rattle.exit.specs.declared.attempt.Way.the-variants.{Glide}
 use Rattle.exit.specs.Trail.{station, Trail, Rule}
 use Rattle.exit.specs.Slide.{lookOf, seen, seenAs, Slide, lost, turn, move, land}
-use Rattle.exit.specs.Leaving.{LeavesBy, behind, reach, sideOf, beats, more}
+use Rattle.exit.specs.Leaving.{LeavesBy, behind, reach, sideOf, beats, further}
 use Rattle.exit.specs.Opens.{regionAt, Tried, Opens, beside, across}
 use Rattle.exit.proofs.Opening.{same-way}
 use Rattle.machine.specs.declared.Op.{Op}
@@ -130,7 +130,7 @@ unfolding beats
 leaves-furthest {rows = rows} {cols = cols} {i = i} {s = s} L j h e =
     no-more (reach rows cols (s .dp) j) (reach rows cols (sideOf s) j) (reach rows cols (s .dp) i) (reach rows cols (sideOf s) i) (L .unbeaten j h e)
   where
-    no-more : (a b a′ b′ : ℕ) → more a b a′ b′ ≡ false → (a ≤ a′) × (a ≡ a′ → b ≤ b′)
+    no-more : (a b a′ b′ : ℕ) → further a b a′ b′ ≡ false → (a ≤ a′) × (a ≡ a′ → b ≤ b′)
     no-more a b a′ b′ h = first (ltb a′ a) refl h
       where
         last : (t : Bool) → ltb b′ b ≡ t → t ≡ false → b ≤ b′

@@ -40,6 +40,13 @@ fieldAt rows region field = getD rows (rowCell region field) 0
 abbrev pub exitAt : List ℕ → ℕ → ℕ → ℕ
 exitAt exits region state = getD exits (exitCell region state) 0
 
+-- a region's size, and its node mark
+abbrev pub sizeOf : List ℕ → ℕ → ℕ
+sizeOf rows region = fieldAt rows region sizeField
+
+abbrev pub markOf : List ℕ → ℕ → ℕ
+markOf rows region = fieldAt rows region markField
+
 -- the numbers of a row, apart from where they stand
 pub record RowNumbers : Type 0 where
   pub colour : ℕ
@@ -52,10 +59,10 @@ pub record RowNumbers : Type 0 where
 abbrev pub rowAt : List ℕ → ℕ → RowNumbers
 rowAt rows region = record {
   colour = fieldAt rows region colourField;
-  size = fieldAt rows region sizeField;
+  size = sizeOf rows region;
   row = fieldAt rows region rowField;
   column = fieldAt rows region columnField;
-  mark = fieldAt rows region markField;
+  mark = markOf rows region;
 }
 
 -- a row of zeros

@@ -5,7 +5,7 @@ use native.Mathlib.Omega.{arith}
 use borrow.Author.Tests.{eq-eqb, ne-eqb}
 use borrow.Author.Needs.{needs}
 use denote.Ref.{now}
-use Rattle.interpreter.specs.Table.{markOf}
+use Rattle.table.specs.Layout.{markOf}
 use Rattle.interpreter.proofs.endless.onward.Statement.{statement}
 use Rattle.interpreter.proofs.endless.onward.Tie as tie
 

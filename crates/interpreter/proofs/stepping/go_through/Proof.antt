@@ -6,7 +6,8 @@ use denote.Ref.{now}
 use Rattle.machine.specs.declared.Done.{Done}
 use Rattle.machine.specs.Machine.{Given, given, exec}
 use Rattle.machine.specs.Held.{Slices, slices, Execs, atPointers}
-use Rattle.interpreter.specs.Table.{pointersOf, opOf, sizeOf}
+use Rattle.interpreter.specs.Table.{pointersOf, opOf}
+use Rattle.table.specs.Layout.{sizeOf}
 use Rattle.interpreter.proofs.StepLaws.{stands-in, moved, halted}
 use Rattle.interpreter.proofs.stepping.go_through.Statement.{statement}
 use Rattle.interpreter.proofs.stepping.go_through.Tie as tie

@@ -6,7 +6,8 @@ use native.Mathlib.Omega.{arith}
 use borrow.Author.Tests.{lt-ltb, le-ltb}
 use borrow.Author.Needs.{needs}
 use denote.Ref.{now}
-use Rattle.interpreter.specs.Table.{any, wrongMark, markOf}
+use Rattle.interpreter.specs.Table.{any, wrongMark}
+use Rattle.table.specs.Layout.{markOf}
 use Rattle.interpreter.proofs.ValidLaws.{any-none, any-more, any-yes}
 use Rattle.interpreter.proofs.validity.any_wrong_mark.Statement.{statement}
 use Rattle.interpreter.proofs.validity.any_wrong_mark.Tie as tie
