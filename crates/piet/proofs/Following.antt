@@ -105,7 +105,7 @@ module _ {p : Picture} {map rows exits : List ℕ} {n : ℕ} (S : Sound p) (B : 
   abbrev job : Job
   job = record { rows = rows; exits = exits; given = g; room = room }
 
-  -- where a run stands after a history: the picture is walked to there; it is a node, and opNumbered; the pointers are a state
+  -- where a run stands after a history: the picture is walked to there; it is a node, and numbered; the pointers are a state
   pub record Stands (history : List Move) (m : Machine) : Type 0 where
     pub walk : Walk p map g room history (m .region) (m .store)
     pub node : Node p map (m .region)
@@ -145,7 +145,7 @@ module _ {p : Picture} {map rows exits : List ℕ} {n : ℕ} (S : Sound p) (B : 
   both : {r target i : ℕ} {q u : PointerState} → NoneOpen p map r q → FirstOpen p map r q target u i → ⊥
   both N F = N .all (F .attempt) (F .few) .never _ _ _ (F .opens)
 
-  -- a run follows the picture and ends at a region that is opNumbered
+  -- a run follows the picture and ends at a region that is numbered
   abbrev Ends : End → Type 0
   Ends e = Follows p map g room e × (e .at .region < n)
 

@@ -1,5 +1,4 @@
--- The definitions meet the public page's rules of colours, of the start and of motion; each theorem follows the page's
--- sentence. The table of the codel to leave by is `side-table` (exit, proof Page). Assumes nothing.
+-- The definitions meet the public page's rules of colours, of the start and of motion (rules 14.1 to 14.8). The table of the codel to leave by is `side-table` (exit, proof Page). Assumes nothing.
 use mathlib.Core.Path.{_≡_, refl, sym, ap, subst, _∙_}
 use mathlib.Core.Bool.{Bool, true, false, cond}
 use mathlib.Core.List.{List, [], _∷_, map}
@@ -43,19 +42,19 @@ use Rattle.piet.specs.Follows.{Follows}
 use Rattle.piet.specs.Page.{colours, line, column, commands, right, down, left, up, toLeft}
 use Rattle.base.proofs.Clash.{clash}
 
--- ---- "Colours"
+-- ---- colours (rule 14.1)
 
 -- the page's table: each of the eighteen colours stands in it, in the line and the column of its number
 pub colour-table : (c : ℕ) → c < 18 → getD palette c (rgb 0 0 0) ≡ getD (getD colours (line c) []) (column c) (rgb 0 0 0)
 colour-table c h =
     same-bytes _ _ (all-at 18 (λ k. same (getD palette k (rgb 0 0 0)) (getD (getD colours (line k) []) (column k) (rgb 0 0 0))) tt c h)
 
--- "White FFFFFF, black 000000"
+-- white is all bytes full, black none
 pub white-black : (getD palette white (rgb 0 0 0) ≡ rgb 0xFF 0xFF 0xFF) × (getD palette black (rgb 1 1 1) ≡ rgb 0x00 0x00 0x00)
 white-black = (refl, refl)
 
--- ---- "Commands": "By the change from the block left to the block entered, hue steps forward in the cycle and lightness
--- steps darker", dark to light being one step darker
+-- ---- commands, by the steps of hue and the steps darker from the block left to the block entered; dark to light is one
+-- step darker (rule 14.2)
 
 hues : (a b i : ℕ) → a < 6 → b < 6 → i < 6 → b ≡ (a + i) % 6 → (b + 6 - a) % 6 ≡ i
 hues a b i ha hb hi e = omega arith
@@ -75,8 +74,7 @@ command-table from to i j f t hi hj e d =
     )
     (sym (List·getD-map opNumbered (getD decoding.commands i []) j 0) ∙ ap (λ (l : List Op). getD l j Nothing) (sym (List·getD-map (map opNumbered) decoding.commands i [])))
 
--- ---- "Start and motion": "Execution starts at the upper left codel's block, the direction pointer (DP) right, the codel
--- chooser (CC) left, the stack empty"
+-- ---- the start: the block of the upper left codel, dp right, cc left, an empty stack (rule 14.4)
 
 pub start-block : {p : Picture} {map : List ℕ} {n : ℕ} → Sound p → IsMap (gridOf p) map n → regionAt p map 0 0 ≡ start .region
 start-block {p} {map} {n} S M = rw (zero-mul (colsOf p)) (least (map-low (gridOf p) map n M 0 (first-in S)))
@@ -87,7 +85,7 @@ start-block {p} {map} {n} S M = rw (zero-mul (colsOf p)) (least (map-low (gridOf
 pub start-pointers : (start .store .pointers ≡ record { dp = right; cc = toLeft }) × (start .store .stack ≡ [])
 start-pointers = (refl, refl)
 
--- "step one codel from there along DP", or over the picture's edge
+-- one codel along dp, or over the edge (rule 14.6)
 module _ (rows cols r c : ℕ) where
   pub ahead-right : c + 1 < cols → aheadOf rows cols r c right ≡ Codel r (c + 1)
   unfolding aheadOf
@@ -121,8 +119,8 @@ module _ (rows cols r c : ℕ) where
   unfolding aheadOf
   edge-up h = rw (le-ltb 0 r (omega arith))
 
--- "take the edge of the block that lies furthest in DP's direction; on it the codel that lies furthest to CC's side": no codel
--- of the block lies further toward DP than the one to leave by, and of those as far none further to CC's side
+-- the codel to leave by (rule 14.5): no codel of the block lies further toward dp, and of those as far none further to cc's
+-- side
 pub leaves-furthest : {map : List ℕ} {rows cols region i : ℕ} {s : PointerState} → LeavesBy map rows cols s region i → (j : ℕ) → j < length map → getD map j 0 ≡ region
     → (reach rows cols (s .dp) j ≤ reach rows cols (s .dp) i)
     × (reach rows cols (s .dp) j ≡ reach rows cols (s .dp) i → reach rows cols (sideOf s) j ≤ reach rows cols (sideOf s) i)
@@ -152,7 +150,7 @@ pub reaches : (rows cols i : ℕ)
 unfolding behind
 reaches rows cols i = (refl, refl, refl, refl)
 
--- "Black and the picture's edge block the step"; what else is ahead is white, or a coloured block
+-- black and the edge block the step (rule 14.6); what else is ahead is white, or a coloured block
 module _ (p : Picture) (r c dp : ℕ) where
   pub edge-blocks : aheadOf (rowsOf p) (colsOf p) r c dp ≡ Outside → lookOf p r c dp ≡ Shut
   unfolding lookOf seen
@@ -171,7 +169,7 @@ module _ (p : Picture) (r c dp : ℕ) where
     unfolding lookOf seen seenAs
     block-ahead l = rw (h, ne-eqb (colourAt p r′ c′) black (λ e. omega arith), ne-eqb (colourAt p r′ c′) white (λ e. omega arith))
 
--- "CC flips and the step is tried again; then DP turns clockwise once; then CC flips; and so on, alternately": the eight
+-- the eight attempts: cc flips, then dp turns, alternately (rule 14.7)
 pub attempts : (q : PointerState)
     → map (attemptOf q) (0 ∷ 1 ∷ 2 ∷ 3 ∷ 4 ∷ 5 ∷ 6 ∷ 7 ∷ [])
     ≡ q
@@ -190,13 +188,12 @@ attempts q = refl
 pub turning : (c : ℕ) → map (λ d. clockwise (record { dp = d; cc = c }) .dp) (right ∷ down ∷ left ∷ up ∷ []) ≡ down ∷ left ∷ up ∷ right ∷ []
 turning c = refl
 
--- "After eight failed attempts the program ends", while steps are left and no input is awaited
+-- the program ends after eight failed attempts (rule 14.7), while steps are left and no input is awaited
 pub ends-after-eight : {p : Picture} {map : List ℕ} {g : Given} {room : RunRoom} {e : End} → Follows p map g room e → e .at .steps < g .terms .limit
     → e .at .store .reading .awaiting ≡ false → NoneOpen p map (e .at .region) (e .at .store .pointers) → e .stop ≡ Completed
 ends-after-eight F l a N = F .completed .1 (l, a, N)
 
--- a slide goes on from a station at which it is not lost. White: "the interpreter slides through it in a straight line along
--- DP"
+-- a slide goes on from a station at which it is not lost: straight on over white (rule 14.8)
 pub slides-on : {p : Picture} {rule : Rule} {past t : Trail} {r c r′ c′ : ℕ} {s : PointerState} {o : Slid} → rule (station r c s ∷ past) ≡ false
     → lookOf p r c (s .dp) ≡ White r′ c′ → Slide p rule past r c s t o ↔ Slide p rule (station r c s ∷ past) r′ c′ s t o
 slides-on {p} {rule} {past} {r = r} {c = c} {r′ = r′} {c′ = c′} h e = (λ d. on d h e, λ d. move h e d)
@@ -211,8 +208,7 @@ slides-on {p} {rule} {past} {r = r} {c = c} {r′ = r′} {c′ = c′} h e = (�
         subst (λ (z : ℕ). Slide p rule (station r c s ∷ past) z c′ s t o) x (subst (λ (z : ℕ). Slide p rule (station r c s ∷ past) a z s t o) y d)
     on (land k f) h e = clash (cc)
 
--- "Hitting black or the edge while in white: CC flips and DP turns clockwise, and the slide goes on from that white codel in the
--- new direction"
+-- at black and at the edge cc flips and dp turns clockwise, and it goes on from where it is
 pub slide-turns : {p : Picture} {rule : Rule} {past t : Trail} {r c : ℕ} {s : PointerState} {o : Slid} → rule (station r c s ∷ past) ≡ false
     → lookOf p r c (s .dp) ≡ Shut → Slide p rule past r c s t o ↔ Slide p rule (station r c s ∷ past) r c (clockwise (flipped s)) t o
 slide-turns {p} {rule} {past} {r = r} {c = c} h e = (λ d. on d h e, λ d. turn h e d)
@@ -239,7 +235,7 @@ slide-lands {p} {rule} {past} {t} {r} {c} {r′} {c′} {s} {o} h e = (
     on (move k f d) h e = clash (cc)
     on (land k f) h e = (refl, cc)
 
--- "Entering a coloured block from white executes nothing"
+-- a block that is entered from white executes nothing
 pub enters-silently : {p : Picture} {map : List ℕ} {r a b c d target i : ℕ} {q u v : PointerState} → Sound p → length map ≡ codels p → Valid q
     → Tried p map r q (Glide a b c d u) → Opens p map r q target v i
     → (g : Given) (size : ℕ) (m : Store) → exec g size (opNumbered i) m ≡ does m

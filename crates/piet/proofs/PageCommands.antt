@@ -1,5 +1,4 @@
--- The definitions meet the public page's commands; each theorem follows the page's sentence, with a the top of the stack and
--- b the second value. Where ours differ (docs/DIFFERENCES.md), a theorem says what is equal. Assumes nothing.
+-- The definitions meet the public page's commands (rules 14.9 to 14.15); a is the top of the stack and b the second value. Where ours differ (docs/DIFFERENCES.md), a theorem says what is equal. Assumes nothing.
 use mathlib.Core.Path.{_≡_, refl, sym, ap, _∙_}
 use mathlib.Core.Bool.{Bool, true, false, not, _&&_}
 use mathlib.Core.List.{List, [], _∷_, _++_, append-nil}
@@ -72,7 +71,7 @@ scalar-small u h = go (ltb u 0x110000) refl h
     go true e h = ltb-true u 0x110000 e
     go false e h = clash (cc)
 
--- "A command that cannot be carried out (too few values, say) is ignored, and the stack stays as it is"
+-- with too few values a command is ignored, and the stack stays as it is (rule 14.9)
 pub too-few : (o : Op) (s : List ℤ) → length s < takes o → Changes o s s
 unfolding exec turn write byTop ofTop Instr.pop Instr.binary Instr.not Instr.dup Instr.roll
 too-few Nothing s h = absurd (omega arith)
@@ -100,7 +99,7 @@ too-few Roll (a ∷ b ∷ s) h = absurd (omega arith)
 too-few CharOut (a ∷ s) h = absurd (omega arith)
 too-few IntOut (a ∷ s) h = absurd (omega arith)
 
--- "push: the number of codels of the block just left. pop: drops the top"
+-- push: the number of codels of the block just left; pop: the top goes (rule 14.10)
 pub push : (g : Given) (size : ℕ) (s : List ℤ) (m : Store) → exec g size Push (withStack s m) ≡ does (withStack (pos size ∷ s) m)
 unfolding exec
 push g size s m = refl
@@ -149,7 +148,7 @@ residue-differs a (negsuc n) h =
     neg-plus (suc t) c n e = rw (lt-ltb c (suc t) (omega arith)) (ap negsuc (omega arith))
 
 module _ (a b : ℤ) (s : List ℤ) where
-  -- "add, subtract, multiply: with top a and second b, the result of b op a takes the place of both"
+  -- add, subtract, multiply: the result of b and a takes the place of both (rule 14.11)
   pub add : InRange (b +ℤ a) → Changes (Pair Add) (a ∷ b ∷ s) ((b +ℤ a) ∷ s)
   unfolding Instr.combined
   add h = combines Add a b (b +ℤ a) s (fits (b +ℤ a) h)
@@ -162,12 +161,12 @@ module _ (a b : ℤ) (s : List ℤ) where
   unfolding Instr.combined
   multiply h = combines Mul a b (b *ℤ a) s (fits (b *ℤ a) h)
 
-  -- "divide (whole-number division)", but by 0, and but -2^63 by -1; `quotZ` rounds toward zero
+  -- divide, in whole numbers, but by 0, and but -2^63 by -1; `quotZ` rounds toward zero
   pub divide : InRange b → (a ≡ pos 0 → ⊥) → (a ≡ negsuc 0 → b ≡ negsuc (2 ^ 63 - 1) → ⊥) → Changes (Pair Div) (a ∷ b ∷ s) (quotZ b a ∷ s)
   unfolding Instr.combined quotient
   divide r z h = combines Div a b (quotZ b a) s (rw (is-not-zero a z) (fits (quotZ b a) (quot-range b a r h)))
 
-  -- "greater: 1 if b > a, else 0"
+  -- greater: 1 where b is greater than a, else 0 (rule 14.12)
   pub greater : ltZ a b ≡ true → Changes (Pair Gt) (a ∷ b ∷ s) (pos 1 ∷ s)
   unfolding Instr.combined
   greater h = combines Gt a b (pos 1) s (rw h)
@@ -176,7 +175,7 @@ module _ (a b : ℤ) (s : List ℤ) where
   unfolding Instr.combined
   not-greater h = combines Gt a b (pos 0) s (rw h)
 
--- "mod's result has the sign of a": for a positive top a it is r from 0 to a - 1, where b is a multiple of a and r
+-- mod has the sign of a: for a positive top a it is r from 0 to a - 1, where b is a multiple of a and r
 pub modulo : (a : ℕ) (b : ℤ) (s : List ℤ) → 0 < a → InRange (pos a)
     → (r : ℕ) × Changes (Pair Mod) (pos a ∷ b ∷ s) (pos r ∷ s) × (r < a) × ((q : ℤ) × (b ≡ q *ℤ pos a +ℤ pos r))
 unfolding Instr.combined remainder
@@ -187,7 +186,7 @@ modulo a b s h r = (
   residue-differs a b h,
 )
 
--- "not: 0 becomes 1, anything else 0"
+-- not: 0 becomes 1, all else 0 (rule 14.12)
 pub not-zero : (s : List ℤ) → Changes Not (pos 0 ∷ s) (pos 1 ∷ s)
 unfolding exec Instr.not isZero
 not-zero s g size m = refl
@@ -196,7 +195,7 @@ pub not-else : (a : ℤ) (s : List ℤ) → (a ≡ pos 0 → ⊥) → Changes No
 unfolding exec Instr.not
 not-else a s h g size m = ap (λ (t : Bool). does (withStack (Instr.bit t ∷ s) m)) (is-not-zero a h)
 
--- "pointer: pops n, DP turns clockwise n times (anticlockwise if n is negative)"
+-- pointer: dp turns clockwise so many times, anticlockwise for a negative number (rule 14.13)
 pub pointer : (g : Given) (size n : ℕ) (s : List ℤ) (m : Store) → Valid (m .pointers)
     → exec g size Ptr (withStack (pos n ∷ s) m) ≡ does (withStack s (withPointers (times n clockwise (m .pointers)) m))
 unfolding exec turn byTop Instr.pop
@@ -207,18 +206,18 @@ pub pointer-back : (g : Given) (size n : ℕ) (s : List ℤ) (m : Store) → Val
 unfolding exec turn byTop Instr.pop
 pointer-back g size n s m v = ap (λ (q : PointerState). does (withStack s (withPointers q m))) (sym (anticlockwise-times n (m .pointers) v))
 
--- "switch: pops n, CC flips |n| times"
+-- switch: cc flips |n| times
 pub switch : (g : Given) (size : ℕ) (n : ℤ) (s : List ℤ) (m : Store) → Valid (m .pointers)
     → exec g size Swi (withStack (n ∷ s) m) ≡ does (withStack s (withPointers (times (natAbs n) flipped (m .pointers)) m))
 unfolding exec turn byTop Instr.pop
 switch g size n s m v = ap (λ (q : PointerState). does (withStack s (withPointers q m))) (sym (flipped-times n (m .pointers) v))
 
--- "duplicate: a second copy of the top"
+-- duplicate: the top twice (rule 14.10)
 pub duplicate : (a : ℤ) (s : List ℤ) → Changes Dup (a ∷ s) (a ∷ a ∷ s)
 unfolding exec Instr.dup
 duplicate a s g size m = refl
 
--- "out: pops the top and writes it as a number or as a character"
+-- out: the top goes and is written as a number or as a character (rule 14.15)
 pub out-number : (g : Given) (size : ℕ) (a : ℤ) (s : List ℤ) (m : Store)
     → exec g size IntOut (withStack (a ∷ s) m) ≡ does (withStack s (withOuts (m .outs ++ (record { kind = 2; value = a } ∷ [])) m))
 unfolding exec write ofTop Instr.pop
@@ -229,7 +228,7 @@ pub out-character : (g : Given) (size u : ℕ) (s : List ℤ) (m : Store) → sc
 unfolding exec write ofTop Instr.pop char residue
 out-character g size u s m h = rw (mod-eq-of-lt {n = u} {m = 2 ^ 32} (omega (arith, scalar-small u h)), h)
 
--- "in: reads a number or a character and pushes it; where what is read is no number, the command is ignored": ours reads a line
+-- in: a number or a character is read and pushed, and the command is ignored where there is none: ours reads a line
 -- (docs/DIFFERENCES.md), and pushes what it gives or leaves the stack
 module _ (g : Given) (reads : g .terms .«abstract_mode» ≡ false) (size : ℕ) (m : Store) where
   pub in-number : (v : ℤ) (n : ℕ) → takeOf intOf (g .input) (m .reading .used) ≡ Line.Push v n

@@ -1,5 +1,5 @@
--- The page's roll: "pops the number of rolls a and the depth n; one roll to depth n buries the top n deep and moves the values
--- above that place up by one; a negative a rolls the other way". Assumes nothing.
+-- The page's roll (rule 14.14): one roll to depth n buries the top n deep; there are a of them, the other way for a negative a.
+-- Assumes nothing.
 use mathlib.Core.Path.{_≡_, sym, ap, ap₂, _∙_}
 use mathlib.Core.Logic.{by-cases}
 use mathlib.Core.List.{List, [], _∷_, _++_, append-assoc, append-nil}

@@ -1,5 +1,5 @@
 -- Demand 3: the history of moves that a run of a picture makes, and what its result says of it. Nothing here speaks of
--- rows, exits or an exit number. Assumes nothing.
+-- rows, exits or an exit number (rules 8.1 to 8.4). Assumes nothing.
 use mathlib.Core.Path.{_≡_}
 use mathlib.Core.Bool.{true, false}
 use mathlib.Core.List.{List, [], _∷_}
@@ -23,8 +23,8 @@ pub record Move : Type 0 where
   pub instruction : ℕ
 
 module _ (p : Picture) (map : List ℕ) (g : Given) (room : RunRoom) where
-  -- what the instruction of a move from region r comes to: it is executed "with the size of the block just left", and kept
-  -- where there is room
+  -- what the instruction of a move from region r comes to: it is executed with the size of the block just left
+  -- (rule 8.3), and kept where there is room (rule 11.7)
   abbrev pub doing : ℕ → PointerState → ℕ → Store → Out
   doing r u i m = fitting room (exec g (tally r (codels p) map) (opNumbered i) (withPointers u m))
 
@@ -51,9 +51,8 @@ module _ (p : Picture) (map : List ℕ) (g : Given) (room : RunRoom) where
   limit = g .terms .limit
 
   -- A run of a picture under its limit ends in e: there is a history that leads to the region and the store reported, its
-  -- pointers included; its length is the steps reported; and it stops for the reason reported and for no other: "steps
-  -- equal to the limit, status 2"; "in abstract mode after an input instruction, 3"; "no open attempt, 1"; else the next
-  -- move can't be kept.
+  -- pointers included; its length is the steps reported; and it stops for the reason reported and for no other: the limit is
+  -- reached (rule 11.2); below it input is awaited (11.3); or no attempt is open (11.1); else the next move can't be kept.
   pub record Follows (e : End) : Type 0 where
     pub history : List Move
     pub walk : Walk history (e .at .region) (e .at .store)

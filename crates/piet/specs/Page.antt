@@ -1,4 +1,4 @@
--- The public page's tables and commands, in its words: what proof Page and proof PageCommands compare our definitions with.
+-- The public page's tables and commands as it has them (rule 14): what proof Page and proof PageCommands compare our definitions with.
 -- Assumes nothing.
 use mathlib.Core.Path.{_≡_}
 use mathlib.Core.List.{List, [], _∷_, _++_}
@@ -69,11 +69,11 @@ takes IntOut = 1
 abbrev pub Changes : Op → List ℤ → List ℤ → Type 0
 Changes o s s′ = (g : Given) (size : ℕ) (m : Store) → exec g size o (withStack s m) ≡ does (withStack s′ m)
 
--- "a finite maximum is allowed": the numbers of 64 bits, -2^63 to 2^63 - 1
+-- the page allows a largest number: here those of 64 bits, -2^63 to 2^63 - 1
 abbrev pub InRange : ℤ → Type 0
 InRange z = mag z < 2 ^ 63
 
--- "one roll to depth n buries the top n deep and moves the values above that place up by one"
+-- one roll to depth n: the top goes n deep, and the values above that place move up by one
 unfoldable pub bury : ℕ → List ℤ → List ℤ
 bury n [] = []
 bury n (x ∷ s) = take (n - 1) s ++ (x ∷ drop (n - 1) s)
