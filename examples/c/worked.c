@@ -1,5 +1,6 @@
 /*
- * Document 01's worked job, through the library: light red and red, three steps.
+ * The smallest job call by call, as a program that keeps the table would make it: light red and red, three steps. picture.c
+ * does the same in one call.
  *
  *     rt staticlib piet_c
  *     gcc examples/c/worked.c -Iinclude -Ltarget/staticlib -lpiet_c -o worked

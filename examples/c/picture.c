@@ -1,0 +1,63 @@
+/*
+ * A picture run in one call: light red and red, three steps. Prints what the run program prints for examples/worked.job.
+ *
+ *     rt staticlib piet_c
+ *     gcc examples/c/picture.c -Iinclude -Ltarget/staticlib -lpiet_c -o picture
+ *     ./picture | diff examples/c/worked.out -
+ */
+#include <inttypes.h>
+#include <stdio.h>
+
+#include "piet.h"
+
+enum { HEIGHT = 1, WIDTH = 2, CODEL = 1, CODELS = HEIGHT * WIDTH, STACK = 16, OUTPUTS = 16, LIMIT = 3 };
+
+/* What the call is lent; its results stand here afterwards. */
+static uint8_t colours[CODELS], kinds[OUTPUTS];
+static uint32_t map[CODELS], rows[PIET_ROW * CODELS], exits[PIET_EXITS * CODELS], work[CODELS];
+static int64_t stack[STACK], values[OUTPUTS];
+static uint64_t answer[PIET_RUN_PICTURE_ANSWER];
+
+static uint32_t run(const uint8_t *pixels, size_t length)
+{
+    const uint8_t no_input[1] = {0}; /* an empty slice has a pointer too */
+    return piet_run_picture(pixels, length, HEIGHT, WIDTH, PIET_UNKNOWN_REFUSED, CODEL, LIMIT, false, no_input, 0,
+                            colours, CODELS, map, CODELS, rows, PIET_ROW * CODELS, exits, PIET_EXITS * CODELS,
+                            work, CODELS, stack, STACK, kinds, OUTPUTS, values, OUTPUTS,
+                            answer, PIET_RUN_PICTURE_ANSWER);
+}
+
+static void print_place(void)
+{
+    const uint32_t *row = rows + PIET_ROW * answer[2];
+    uint8_t label[PIET_LABEL_ROOM];
+    uint64_t length = 0;
+    piet_label((uint8_t)row[0], row[2], row[3], label, PIET_LABEL_ROOM, &length, PIET_LABEL_ANSWER);
+    printf("at %.*s %" PRIu64 " %" PRIu64 "\n", (int)length, (const char *)label, answer[3], answer[4]);
+}
+
+/* The stack with its top first, then the outputs in order. */
+static void print_values(void)
+{
+    printf("stack %" PRIu64, answer[5]);
+    for (uint64_t i = answer[5]; i > 0; i--)
+        printf(" %" PRId64, stack[i - 1]);
+    printf("\nout %" PRIu64, answer[6]);
+    for (uint64_t i = 0; i < answer[6]; i++)
+        printf(" %c%" PRId64, kinds[i] == PIET_CHAR ? 'c' : 'i', values[i]);
+    printf("\n");
+}
+
+int main(void)
+{
+    static const uint8_t pixels[3 * CODELS] = {0xFF, 0xC0, 0xC0, 0xFF, 0x00, 0x00};
+    uint32_t number = run(pixels, sizeof pixels);
+    if (number != PIET_DONE) {
+        printf("refused %" PRIu32 "\n", number);
+        return 1;
+    }
+    printf("status %" PRIu64 "\nsteps %" PRIu64 "\n", answer[0], answer[1]);
+    print_place();
+    print_values();
+    return 0;
+}
