@@ -8,7 +8,7 @@ use lib.ListN.{length, take, drop, replicate}
 unfoldable pub over : {A : Type 0} → List A → ℕ → List A → List A
 over d at word = take at d ++ word ++ drop (at + length word) d
 
--- a lent list with a result at its start: "nothing beyond the room" that the result needs is touched
+-- a lent list with a result at its start, and past it as it was
 unfoldable pub lent : {A : Type 0} → List A → List A → List A
 lent result before = result ++ drop (length result) before
 

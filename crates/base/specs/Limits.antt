@@ -1,8 +1,8 @@
--- Document 01's numbers that bound a job. Assumes nothing.
+-- The bounds of a picture's sides and codel width. Assumes nothing.
 use Prim.Native.Nat.{ℕ}
 use mathlib.Core.Bool.{Bool, _||_}
 use lib.Dec.{eqb, ltb}
 
--- "Height and width 1 to 1,024 pixels; codel width 1 to 1,024": a number that is refused
+-- a height, a width or a codel width out of bounds (rule 2.1): refusals 1 and 6 (rule 12.2)
 abbrev pub wrongSide : ℕ → Bool
 wrongSide n = eqb n 0 || ltb 1024 n

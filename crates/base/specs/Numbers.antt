@@ -1,10 +1,10 @@
--- Answers in document 01's numbers, and its table of refusals as data. Assumes nothing.
+-- Answers in numbers, and a call's table of refusals as data (rules 12.1, 12.2). Assumes nothing.
 use mathlib.Core.Bool.{Bool, true, false}
 use mathlib.Core.List.{List, [], _∷_}
 use Prim.Native.Nat.{ℕ, zero, suc}
 
--- "A refusal returns its number, a place where named, zeros elsewhere": the number, 0 where the call is
--- done, and the values that go with it
+-- the number of a refusal, 0 where the call is done, and the values that go with it: of a refusal its place, where one is
+-- named, and zeros (rule 12.1)
 pub data Numbers : Type 0 where
   numbers : ℕ → List ℕ → Numbers
 
@@ -24,7 +24,7 @@ first [] last = last
 first (row true n ∷ rows) last = n
 first (row false n ∷ rows) last = first rows last
 
--- "No lent byte changes": what is lent is as it was where the call is refused
+-- what is lent is as it was where the call is refused (rule 12.1)
 abbrev pub unlessRefused : {A : Type 0} → Numbers → A → A → A
 unlessRefused (numbers zero values) new old = new
 unlessRefused (numbers (suc n) values) new old = old

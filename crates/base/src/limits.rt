@@ -1,4 +1,4 @@
-// Document 01's numbers that bound a job.
+// The bounds of a picture's sides and codel width (rule 2.1).
 ghost use mathlib.Core.Path.{_≡_};
 ghost use Rattle.base.specs.Limits.{wrongSide};
 

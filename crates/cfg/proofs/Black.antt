@@ -1,4 +1,4 @@
--- "Black can be a node only as region 0; its exits carry no instruction" (document 01, "Regions and exits").
+-- Black is a node as region 0 alone, and its exits have no instruction (rule 4.6).
 --     black-node       a node with a black codel is region 0
 --     black-silent     an open attempt of a black region has no instruction
 --     black-exit       the number of its exit says none
@@ -53,7 +53,7 @@ bright-at {p} {map} a b i d = record {
   not-black = rw (row-of p a b i, col-of p a b i) d;
 }
 
--- what a way adds is seen white or coloured: "Shut: outside or black"
+-- what a way adds is seen white or coloured, since black is shut (rule 4.3)
 bright : {p : Picture} {map : List ℕ} {r c q : ℕ} {s : PointerState} {w : Way} → Inside p r c → Valid s → Attempt p r c s w → Adds p map w q → Bright p map q
 bright {p} {r = r} {c = c} {s = s} i v (step {r′ = a} {c′ = b} e) nodes.beside = bright-at a b (coloured-inside p r c (s .dp) i e) (coloured-colour p r c (s .dp) e .0)
 bright {p} {r = r} {c = c} {s = s} i v (lost {r′ = a} {c′ = b} e d) astray = bright-at a b (white-inside p r c (s .dp) i e) (seen-white (look-sighted p r c (s .dp) e))

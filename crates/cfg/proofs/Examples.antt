@@ -1,4 +1,4 @@
--- Document 01's exit numbers of small pictures, by the definition. Red is 6, white 19. Assumes nothing.
+-- The exit numbers of rule 5.5's small pictures, by the definition. Red is 6, white 19. Assumes nothing.
 use mathlib.Core.Path.{_≡_, refl, subst}
 use mathlib.Core.List.{List, [], _∷_}
 use Prim.Native.Nat.{ℕ, zero, suc, _<_}
@@ -35,7 +35,7 @@ first-node p map l alone coloured = record {
 not-white : _≡_ {A = ℕ} 6 white → ⊥
 not-white e = omega arith
 
--- "1 x 2 red, white: exits 262,145 and 327,681, back to itself"
+-- red, white: back to itself
 alone-of-two : Alone (0 ∷ 1 ∷ [])
 alone-of-two zero h e = refl
 alone-of-two (suc zero) h e = absurd (omega arith)
@@ -49,7 +49,7 @@ back-numbers =
       leads node (across (record { codel = 0; leaves = leaves (ofNumber 1); way = back-to-itself .1 })),
     )
 
--- "1 x 3 red, white, red: 3 and 65,539"
+-- red, white, red: straight on
 alone-of-three : Alone (0 ∷ 1 ∷ 2 ∷ [])
 alone-of-three zero h e = refl
 alone-of-three (suc zero) h e = absurd (omega arith)

@@ -1,5 +1,5 @@
 -- Where the exits of a table lead.
---     opens-leads    an open attempt of a found region leads to a node, in a state, with an instruction of document 01
+--     opens-leads    an open attempt of a found region leads to a node, in a state, with an instruction of rule 1.5
 --     exit-fits      an exit is at most 9,437,184, and what it says of a target is a region's number, as the run asks
 -- Assumes nothing.
 use mathlib.Core.Path.{_≡_, sym, subst, _∙_}

@@ -1,5 +1,5 @@
--- Building (document 01, "Refusal numbers"): refusals 1, 6, 7, 2, 8, 9, 4 in this order, and what a call answers and leaves.
--- Assumes nothing.
+-- Building: refusals 1, 6, 7, 2, 8, 9, 4 in this order (rule 12.4), and what a call answers and leaves (rule 7.4). Assumes
+-- nothing.
 use mathlib.Core.Path.{_≡_}
 use mathlib.Core.Bool.{Bool, not, cond, _||_}
 use mathlib.Core.List.{List, [], _∷_}
@@ -15,7 +15,7 @@ use Rattle.colour.specs.Palette.{white}
 use Rattle.picture.specs.Picture.{Picture, codels, Sound}
 use Rattle.table.specs.Layout.{rowsRoom, exitsRoom}
 
--- document 01's number, the count of regions and the index of a colour, zero where there is none
+-- the answer's number (rule 12.2), the count of regions and the index of a colour, zero where there is none
 abbrev pub numbered : Built → Numbers
 numbered (Done regions) = numbers 0 (regions ∷ 0 ∷ [])
 numbered Size = numbers 1 (0 ∷ 0 ∷ [])
@@ -31,11 +31,11 @@ unfoldable pub legalFirst : List ℕ → ℕ
 legalFirst [] = 0
 legalFirst (c ∷ cs) = cond (ltb 19 c) 0 (suc (legalFirst cs))
 
--- "Needed room G, 5G, 8G, G": a lent slice too short for so many codels
+-- a lent slice too short for so many codels (rule 7.4)
 unfoldable pub short : ℕ → ℕ → ℕ → ℕ → ℕ → Bool
 short count map rows exits work = ltb map count || (ltb rows (rowsRoom count) || (ltb exits (exitsRoom count) || ltb work count))
 
--- the table of refusals, in document 01's order for building; the last four numbers are the lent slices' lengths
+-- the table of refusals, in building's order (rule 12.4); the last four numbers are the lent slices' lengths
 unfoldable pub refusals : Picture → ℕ → ℕ → ℕ → ℕ → List Row
 refusals p map rows exits work =
     row (wrongSide (p .height) || wrongSide (p .width)) (numbers 1 (0 ∷ 0 ∷ []))

@@ -1,4 +1,4 @@
--- The nodes (document 01, "A node is a region found from region 0 .."). Assumes nothing.
+-- The regions that are found, and the nodes among them (rules 6.1, 6.2). Assumes nothing.
 use mathlib.Core.Path.{_≡_}
 use mathlib.Core.List.{List}
 use Prim.Native.Nat.{ℕ, _<_}
@@ -11,14 +11,14 @@ use Rattle.exit.specs.declared.attempt.Way.{Way}
 use Rattle.exit.specs.declared.attempt.Way.the-variants.{Step, Astray, Glide}
 use Rattle.exit.specs.Opens.{regionAt, Tried}
 
--- the regions that a way adds: "the region at each open-or-white boundary and the landing of its slide"
+-- the regions that a way adds: that of the codel ahead, where it is not shut, and that of its slide's landing (rule 6.1)
 pub data Adds (p : Picture) (map : List ℕ) : Way → ℕ → Type 0 where
   beside : {a b : ℕ} → Adds p map (Step a b) (regionAt p map a b)
   astray : {a b : ℕ} → Adds p map (Astray a b) (regionAt p map a b)
   over : {a b c d : ℕ} {t : PointerState} → Adds p map (Glide a b c d t) (regionAt p map a b)
   landing : {a b c d : ℕ} {t : PointerState} → Adds p map (Glide a b c d t) (regionAt p map c d)
 
--- "found from region 0 by repeatedly adding, for each found region (white too)", what its eight attempts add
+-- found: region 0, and what the eight attempts of a found region, white or not, add (rule 6.1)
 pub data Found (p : Picture) (map : List ℕ) : ℕ → Type 0 where
   entry : Found p map 0
   next : {r q : ℕ} {s : PointerState} {w : Way} → Found p map r → Valid s → Tried p map r s w → Adds p map w q → Found p map q
@@ -30,7 +30,7 @@ pub record White (p : Picture) (map : List ℕ) (r : ℕ) : Type 0 where
   pub own : getD map codel 0 ≡ r
   pub colour : codelColour p codel ≡ white
 
--- a node: found, "white ones then left out"
+-- a node: found, and not white (rule 6.2)
 pub record Node (p : Picture) (map : List ℕ) (r : ℕ) : Type 0 where
   pub found : Found p map r
   pub coloured : White p map r → ⊥

@@ -1,4 +1,4 @@
--- The table that building writes (document 01, "Building writes"). Assumes nothing.
+-- The table that building writes (rules 7.1 to 7.4). Assumes nothing.
 use mathlib.Core.Path.{_≡_}
 use mathlib.Core.List.{List}
 use Prim.Native.Nat.{ℕ, _<_, _≤_}
@@ -19,16 +19,16 @@ pub data Marks (A : Type 0) : ℕ → Type 0 where
   is : A → Marks A 1
   none : (A → ⊥) → Marks A 0
 
--- region r's exit in the state q
+-- region r's exit in the state q (rule 7.3)
 pub data Exit (p : Picture) (map : List ℕ) (r : ℕ) (q : PointerState) : ℕ → Type 0 where
-  -- "0 where the row is no node or the attempt is not open"
+  -- 0 where r is no node or its attempt is not open
   no-node : (Node p map r → ⊥) → Exit p map r q 0
   shut : Node p map r → Shut p map r q → Exit p map r q 0
-  -- else "1 + target + 65,536 x new state + 524,288 x instruction"
+  -- else the number that says where the attempt leads
   leads : {target i : ℕ} {u : PointerState} → Node p map r → Opens p map r q target u i → Exit p map r q (exitNumber target (stateNumber u) i)
 
--- the whole table of n regions, in the room that it needs: "region rows, five u32 (colour, size, first pixel row and column, 1
--- for a node else 0), exits, eight u32 a region by state"; the cells past the n regions and the work slice are 0
+-- the whole table of n regions, in the room that it needs: the map (rule 7.1), a row (7.2) and eight exits (7.3) for each
+-- region; the cells past the n regions and the work slice are 0 (7.4)
 pub record Builds (p : Picture) (map rows exits work : List ℕ) (n : ℕ) : Type 0 where
   pub map-long : length map ≡ codels p
   pub rows-long : length rows ≡ rowsRoom (codels p)

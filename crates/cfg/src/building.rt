@@ -1,4 +1,4 @@
-// Building: the checks of document 01 in its order, and then the table.
+// Building: its tests, and then the table.
 use crate::filling::fill_table;
 use base::limits::wrong_side;
 use colour::palette::WHITE;
@@ -65,7 +65,7 @@ pub fn codel_count(height: usize, width: usize, codel: usize) -> usize
     s.rows * s.cols
 }
 
-// The tests of document 01 in its order; the lent slices are given by their lengths. Nothing is written.
+// Building's tests in their order (rule 12.4); the lent slices are given by their lengths. Nothing is written.
 fn check(
     colours: &[u8],
     height: usize,

@@ -1,4 +1,4 @@
--- The table of pairs is the page's table, column after column, and its commands are 0 to 17. Assumes nothing.
+-- The table of pairs is that of rule 1.4, column after column, and its commands are 0 to 17. Assumes nothing.
 use mathlib.Core.Path.{_≡_}
 use mathlib.Core.Bool.{Bool, true, false, cond, _&&_}
 use mathlib.Core.List.{List, [], _++_, map}

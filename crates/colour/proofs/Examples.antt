@@ -20,7 +20,7 @@ pub unknown : colourOf (rgb 0xC0 0xC0 0xC0) ≡ Unknown
 unfolding colourOf numberIn
 unknown = refl
 
--- "2 makes it white, 3 black": the number of such a pixel, and the bytes that the page gives that colour
+-- the number of an unknown pixel under settings 2 and 3 (rule 1.2), and the bytes that the page gives that colour (rule 14.1)
 pub substituted :
     (coloursUnder (0xC0 ∷ 0xC0 ∷ 0xC0 ∷ []) 2 ≡ 19 ∷ [])
     × ((coloursUnder (0xC0 ∷ 0xC0 ∷ 0xC0 ∷ []) 3 ≡ 18 ∷ [])

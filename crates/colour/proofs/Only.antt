@@ -19,7 +19,7 @@ use Rattle.colour.specs.declared.classify.Told.{Told}
 use Rattle.colour.specs.declared.label.Labelled.{Labelled}
 use Rattle.colour.specs.declared.label.Labelled.the-variants.{Done as Labels, Label}
 
--- document 01's number and values name one case
+-- the answer's number (rule 12.2) and values name one case
 abbrev classifiedOf : Numbers → Classified
 classifiedOf (numbers zero v) = Done
 classifiedOf (numbers (suc zero) v) = Size

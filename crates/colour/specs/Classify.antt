@@ -1,5 +1,4 @@
--- Classifying (document 01, "Refusal numbers" and "Colours"): refusals 1, 3, 2, 4, 5 in this order, and what is written.
--- Assumes nothing.
+-- Classifying: refusals 1, 3, 2, 4, 5 in this order (rule 12.3), and what is written (rules 1.2, 1.3). Assumes nothing.
 use mathlib.Core.Path.{_≡_}
 use mathlib.Core.Bool.{Bool, not, cond, _&&_, _||_}
 use mathlib.Core.List.{List, [], _∷_, map}
@@ -15,7 +14,7 @@ use Rattle.base.specs.Lent.{lent}
 use Rattle.base.specs.Limits.{wrongSide}
 use Rattle.colour.specs.Palette.{colourOf, pixelsOf, black, white}
 
--- document 01's number, and the row and the column, zeros where there is none
+-- the answer's number (rule 12.2), and the row and the column, zeros where there is none
 abbrev pub numbered : Classified → Numbers
 numbered Done = numbers 0 (0 ∷ 0 ∷ [])
 numbered Size = numbers 1 (0 ∷ 0 ∷ [])
@@ -24,7 +23,7 @@ numbered Setting = numbers 3 (0 ∷ 0 ∷ [])
 numbered Room = numbers 4 (0 ∷ 0 ∷ [])
 numbered (Pixel r c) = numbers 5 (r ∷ c ∷ [])
 
--- what a setting does with a pixel that is not in the table: 0 and 1 refuse it, 2 makes it white, and 3 black
+-- what a setting does with a pixel that is not in the table: 0 and 1 refuse it, 2 makes it white, and 3 black (rule 1.2)
 abbrev pub refusesUnknown : ℕ → Bool
 refusesUnknown s = ltb s 2
 
@@ -51,7 +50,7 @@ unknownPixel strict pixels n width =
     let k = knownFirst (found pixels) in
     row (strict && ltb k n) (numbers 5 (k / width ∷ k % width ∷ []))
 
--- the table of refusals, in document 01's order for classifying
+-- the table of refusals, in classifying's order (rule 12.3)
 unfoldable pub refusals : List ℕ → ℕ → ℕ → ℕ → ℕ → List Row
 refusals pixels height width setting room =
     row (wrongSide height || wrongSide width) (numbers 1 (0 ∷ 0 ∷ []))

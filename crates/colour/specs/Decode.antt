@@ -1,4 +1,4 @@
--- Decoding: the page's table of commands (document 01, "Decoding"; `decode.rs`). Assumes nothing.
+-- Decoding: the page's table of commands (rules 1.4, 14.2; `decode.rs`). Assumes nothing.
 use mathlib.Core.Bool.{cond, _&&_}
 use mathlib.Core.List.{List, [], _∷_}
 use Prim.Native.Nat.{ℕ, _+_, _-_, _/_, _%_}

@@ -1,7 +1,6 @@
--- The instructions by document 01's numbers (`Instruction`). Assumes nothing.
+-- The instructions by their numbers, in the order of the Rust's `Instruction` (rule 1.5). Assumes nothing.
 use Prim.Native.Nat.{ℕ}
 
--- "Instructions are 1 to 17 in the order of `Instruction`, Push 1 to IntOut 17; 0 is none"
 abbrev pub none : ℕ
 none = 0
 

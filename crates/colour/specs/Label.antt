@@ -1,4 +1,4 @@
--- Region labels, byte for byte as the Rust writes them (document 01, "Regions and exits"; refusal 12). Assumes nothing.
+-- Region labels, byte for byte as the Rust writes them (rule 3.5), and refusal 12 (rule 12.7). Assumes nothing.
 use mathlib.Core.Path.{_≡_}
 use mathlib.Core.Bool.{Bool, cond, _&&_, _||_}
 use mathlib.Core.List.{List, [], _∷_, _++_}
@@ -29,16 +29,16 @@ place n = ascii "_" ++ decimal n
 abbrev pub isEntry : ℕ → ℕ → Bool
 isEntry r c = eqb r 0 && eqb c 0
 
--- "`Entry` for first pixel (0,0), else the colour name, row and column as RegRed_0_1"
+-- `Entry`, or the colour's name with the row and the column, as RegRed_0_1 (rule 3.5)
 unfoldable pub labelOf : ℕ → ℕ → ℕ → List ℕ
 labelOf colour r c = cond (isEntry r c) (ascii "Entry") (name colour ++ place r ++ place c)
 
--- document 01's number, and the label's length
+-- the answer's number (rule 12.2), and the label's length
 abbrev pub numbered : Labelled → Numbers
 numbered (Done n) = numbers 0 (n ∷ [])
 numbered Label = numbers 12 (0 ∷ [])
 
--- "colour above 19, row or column above 1,023, or under 22 bytes lent"
+-- refusal 12 (rule 12.2): no such colour, a row or a column out of bounds, or too few bytes lent
 abbrev pub refused : ℕ → ℕ → ℕ → ℕ → Bool
 refused colour r c room = ltb 19 colour || ltb 1023 r || ltb 1023 c || ltb room 22
 
@@ -47,7 +47,7 @@ answer colour r c room =
     first (row (refused colour r c room) (numbers 12 (0 ∷ [])) ∷ [])
     (numbers 0 (length (labelOf colour r c) ∷ []))
 
--- "what is left of the first 22 bytes becomes 0"
+-- the label in its 22 bytes, zeros after it (rule 3.5)
 unfoldable pub padded : List ℕ → List ℕ
 padded label = label ++ replicate (22 - length label) 0
 

@@ -1,4 +1,4 @@
--- The twenty colours and their three bytes (`convert.rs`, the page's table), in document 01's numbers. Assumes nothing.
+-- The twenty colours and their three bytes (`convert.rs`, the page's table), by number (rules 1.1, 14.1). Assumes nothing.
 use mathlib.Core.Bool.{Bool, _&&_, cond}
 use mathlib.Core.List.{List, [], _∷_}
 use Prim.Native.Nat.{ℕ, suc}

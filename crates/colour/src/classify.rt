@@ -33,7 +33,7 @@ pub enum Classified {
     Pixel { row: usize, column: usize },
 }
 
-// An answer in document 01's numbers: the number, and the place of an unknown pixel, zeros where there is none.
+// An answer in numbers: its own (rule 12.2), and the place of an unknown pixel, zeros where there is none.
 pub struct Told {
     pub number: u32,
     pub row: usize,
@@ -110,7 +110,7 @@ fn first_unknown(pixels: &[u8], n: usize, width: usize) -> Classified
     }
 }
 
-// The tests of document 01 in its order. Nothing is written.
+// Classifying's tests in their order (rule 12.3). Nothing is written.
 pub fn check(pixels: &[u8], height: usize, width: usize, setting: u8, room: usize) -> Classified
     ensures { λ r. ⌜ numbered r ≡ answer (now (pixels .entry)) height width setting room ⌝ }
 {

@@ -1,4 +1,4 @@
--- Document 01's small pictures, walked by the definitions. Red is 6, black 18, white 19; a state is written by its number.
+-- The small pictures of rule 5.5, walked by the definitions. Red is 6, black 18, white 19; a state is written by its number.
 -- Assumes nothing.
 use mathlib.Core.Path.{refl}
 use mathlib.Core.List.{[], _∷_}
@@ -17,7 +17,7 @@ use Rattle.exit.specs.Attempt.{Attempt, shut, glide, lost as astray}
 abbrev Leaving : Picture → ℕ → Way → Type 0
 Leaving p state w = Attempt p 0 0 (ofNumber state) w
 
--- "1 x 2 red, white: exits 262,145 and 327,681, back to itself": two turns at the white codel, so in state 4 and in state 5
+-- red, white: two turns at the white codel, and so back to itself in state 4 and in state 5
 abbrev pub red-white : Picture
 red-white = picture 1 2 1 (6 ∷ 19 ∷ [])
 
@@ -26,7 +26,7 @@ unfolding seenAs seen lookOf aheadOf turnsOf eighthTurn
 back-to-itself =
     (glide refl (record { trail = _; slides = turn refl refl (turn refl refl (land refl refl)) }), glide refl (record { trail = _; slides = turn refl refl (turn refl refl (land refl refl)) }))
 
--- "1 x 3 red, white, red: 3 and 65,539": straight on, in the same state
+-- red, white, red: straight on, in the same state
 abbrev pub red-white-red : Picture
 red-white-red = picture 1 3 1 (6 ∷ 19 ∷ 6 ∷ [])
 
@@ -34,7 +34,7 @@ pub straight-on : Leaving red-white-red 0 (Glide 0 1 0 2 (ofNumber 0)) × Leavin
 unfolding seenAs seen lookOf aheadOf turnsOf eighthTurn
 straight-on = (glide refl (record { trail = _; slides = land refl refl }), glide refl (record { trail = _; slides = land refl refl }))
 
--- "2 x 3, red white white over black white white: Completed": no attempt is open
+-- red, white, white over black, white, white: no attempt is open
 abbrev round : Picture
 round = picture 2 3 1 (6 ∷ 19 ∷ 19 ∷ 18 ∷ 19 ∷ 19 ∷ [])
 

@@ -83,7 +83,7 @@ reached S l v (beside {a = a} {b = b} t) =
 reached S l v (across {c = c} {d = d} t) =
     record { row = c; col = d; own = refl; lands = slid (inside-of S (t .codel) (omega (arith, t .leaves .codel))) v (t .way) }
 
--- its instruction is one of document 01's
+-- its instruction is one of rule 1.5's
 pub opens-known : {p : Picture} {map : List ℕ} {r target i : ℕ} {q u : PointerState} → Opens p map r q target u i → i ≤ 17
 opens-known {p} (beside {a = a} {b = b} t) = decode-small (codelColour p (t .codel)) (colourAt p a b)
 opens-known (across t) = lit≤ tt

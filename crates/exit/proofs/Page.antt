@@ -1,4 +1,4 @@
--- The page's table of the codel that CC picks on the edge, and that the definitions have its eight entries. Assumes nothing.
+-- The page's table of sides (rule 14.5), and that the definitions have its eight entries. Assumes nothing.
 use mathlib.Core.Path.{_≡_, refl}
 use mathlib.Core.List.{List, [], _∷_, map}
 use Prim.Native.Nat.{ℕ}
@@ -16,7 +16,7 @@ toward lowermost = 1
 toward leftmost = 2
 toward uppermost = 3
 
--- "DP | CC left picks | CC right picks", a line for DP right, down, left, up: so the entries stand by state, 0 to 7
+-- what cc left and cc right pick, a line for dp right, down, left, up: so the entries stand by state, 0 to 7
 abbrev pub pageTable : List Pick
 pageTable =
     uppermost ∷ lowermost

@@ -1,5 +1,5 @@
--- One attempt to leave: the step from the codel to leave by, and the slide where that leads onto white (document 01,
--- "Regions and exits"). Assumes nothing.
+-- One attempt to leave: the step from the codel to leave by (rule 4.3), and the slide where that leads onto white (rule 5.1).
+-- Assumes nothing.
 use mathlib.Core.Path.{_≡_}
 use Prim.Native.Nat.{ℕ}
 use Rattle.flow.specs.declared.PointerState.{PointerState}
@@ -11,14 +11,14 @@ use Rattle.exit.specs.declared.attempt.Way.the-variants.{Closed, Step, A
 use Rattle.exit.specs.Trail.{eighthTurn}
 use Rattle.exit.specs.Slide.{lookOf, Ends}
 
--- from codel (r, c) in state s; "the boundary is one codel further"
+-- from codel (r, c) in state s; what is ahead decides
 pub data Attempt (p : Picture) (r c : ℕ) (s : PointerState) : Way → Type 0 where
-  -- "Shut: outside or black"
+  -- it is shut (rule 4.3)
   shut : lookOf p r c (s .dp) ≡ Shut → Attempt p r c s Closed
-  -- "A coloured boundary gives its region, the same state"
+  -- it is a coloured codel (rule 4.4)
   step : {r′ c′ : ℕ} → lookOf p r c (s .dp) ≡ Coloured r′ c′ → Attempt p r c s (Step r′ c′)
-  -- "A white boundary starts a slide", and it lands
+  -- it is a white one, and the slide from there lands (rule 5.3)
   glide : {r′ c′ a b : ℕ} {t : PointerState} → lookOf p r c (s .dp) ≡ White r′ c′ → Ends p eighthTurn r′ c′ s (Landed a b t)
       → Attempt p r c s (Glide r′ c′ a b t)
-  -- or it is lost, and "the attempt is not open"
+  -- or is lost (rule 5.4)
   lost : {r′ c′ : ℕ} → lookOf p r c (s .dp) ≡ White r′ c′ → Ends p eighthTurn r′ c′ s Lost → Attempt p r c s (Astray r′ c′)

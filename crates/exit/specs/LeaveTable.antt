@@ -1,5 +1,4 @@
--- The table of the codels to leave by, in the exit cells of the regions (document 01, "For each state the codel to leave
--- by"). Assumes nothing.
+-- The table of the codels to leave by (rule 4.2), in the exit cells of the regions. Assumes nothing.
 use mathlib.Core.Path.{_≡_}
 use mathlib.Core.List.{List}
 use Prim.Native.Nat.{ℕ, _*_, _<_, _≤_}
@@ -8,8 +7,8 @@ use Rattle.flow.specs.Pointer.{ofNumber}
 use Rattle.table.specs.Layout.{exitsRoom, exitAt}
 use Rattle.exit.specs.Leaving.{LeavesBy}
 
--- a map of a grid that is not empty: at most 65,536 codels, no more regions than codels, and so many cells as document 01
--- asks room for
+-- a map of a grid that is not empty: at most 65,536 codels (rule 2.1), no more regions than codels, and room for the exits
+-- (rule 7.4)
 pub record Mapped (map : List ℕ) (cells rows cols : ℕ) : Type 0 where
   pub grid : length map ≡ rows * cols
   pub cols-pos : 0 < cols

@@ -1,6 +1,5 @@
--- The codel to leave a region by. Document 01: "the furthest toward dp and among those the furthest toward cc, seen facing
--- dp". The page: "the edge of the block that lies furthest in DP's direction; on it the codel that lies furthest to CC's
--- side, as seen when looking along DP". Assumes nothing.
+-- The codel to leave a region by: the furthest toward dp, and of several the furthest to cc's side (rules 4.2, 14.5). Assumes
+-- nothing.
 use mathlib.Core.Path.{_≡_}
 use mathlib.Core.Bool.{Bool, true, false, cond}
 use mathlib.Core.List.{List}

@@ -1,5 +1,5 @@
--- What an attempt of a region comes to, by walking codels (document 01, "Regions and exits"). A region is named by its number
--- in `map`, the numbering of the picture's regions by first codels, which the picture determines. Assumes nothing.
+-- What an attempt of a region comes to, by walking codels (rules 4.2 to 4.4, 5.1 to 5.4). A region is named by its number in
+-- `map`, the numbering of the picture's regions by first codels, which the picture determines. Assumes nothing.
 use mathlib.Core.List.{List}
 use Prim.Native.Nat.{ℕ, _/_, _%_}
 use lib.ListN.{getD}
@@ -24,10 +24,10 @@ pub record Tried (p : Picture) (map : List ℕ) (r : ℕ) (q : PointerState) (w 
 
 -- the attempt is open: it leads to a region, with new pointers and an instruction
 pub data Opens (p : Picture) (map : List ℕ) (r : ℕ) (q : PointerState) : ℕ → PointerState → ℕ → Type 0 where
-  -- "A coloured boundary gives its region, the same state and the decoded instruction"
+  -- into the region of a coloured codel ahead, in the same state, with the instruction of the change of colour (rule 4.4)
   beside : {a b : ℕ} (t : Tried p map r q (Step a b))
       → Opens p map r q (regionAt p map a b) q (decodeOf (codelColour p (t .codel)) (colourAt p a b))
-  -- a slide that stops "gives that region, the present state and no instruction"
+  -- into the region where a slide lands, in the state that it has then, with no instruction (rule 5.3)
   across : {a b c d : ℕ} {u : PointerState} → Tried p map r q (Glide a b c d u)
       → Opens p map r q (regionAt p map c d) u none
 

@@ -1,5 +1,4 @@
--- What is ahead of a codel, and the slide over white (document 01, "Regions and exits"; the page, "Start and motion").
--- Assumes nothing.
+-- What is ahead of a codel, and the slide over white (rules 4.3, 5.2 to 5.4). Assumes nothing.
 use mathlib.Core.Path.{_≡_}
 use mathlib.Core.Bool.{true, false, cond}
 use mathlib.Core.List.{[], _∷_}
@@ -22,12 +21,12 @@ use Rattle.exit.specs.Trail.{station, Trail, Rule}
 unfoldable pub seenAs : ℕ → ℕ → ℕ → Sight
 seenAs colour r c = cond (eqb colour black) Shut (cond (eqb colour white) (White r c) (Coloured r c))
 
--- "Shut: outside or black"
+-- black and what is outside are shut (rule 4.3)
 unfoldable pub seen : Picture → Beyond → Sight
 seen p Outside = Shut
 seen p (Codel r c) = seenAs (colourAt p r c) r c
 
--- "Look one codel along dp", from codel (r, c)
+-- what is one codel along dp from codel (r, c)
 unfoldable pub lookOf : Picture → ℕ → ℕ → ℕ → Sight
 lookOf p r c dp = seen p (aheadOf (rowsOf p) (colsOf p) r c dp)
 
@@ -37,13 +36,13 @@ pub data Slide (p : Picture) (rule : Rule) : Trail → ℕ → ℕ → PointerSt
   -- by the rule this is the station at which it is lost
   lost : {past : Trail} {r c : ℕ} {s : PointerState} → rule (station r c s ∷ past) ≡ true
       → Slide p rule past r c s (station r c s ∷ past) Lost
-  -- "Shut: dp turns clockwise, cc flips, one turn is counted"
+  -- shut ahead: it turns where it is, which is one turn more (rule 5.2)
   turn : {past t : Trail} {r c : ℕ} {s : PointerState} {o : Slid} → rule (station r c s ∷ past) ≡ false → lookOf p r c (s .dp) ≡ Shut
       → Slide p rule (station r c s ∷ past) r c (turnedOnce s) t o → Slide p rule past r c s t o
-  -- "White: move there"; the turns stay counted
+  -- white ahead: it moves there (rule 5.2), and the turns stay counted
   move : {past t : Trail} {r c r′ c′ : ℕ} {s : PointerState} {o : Slid} → rule (station r c s ∷ past) ≡ false → lookOf p r c (s .dp) ≡ White r′ c′
       → Slide p rule (station r c s ∷ past) r′ c′ s t o → Slide p rule past r c s t o
-  -- "The slide stops at the first codel that is neither white nor shut, and gives that region, the present state"
+  -- a coloured codel ahead: it ends there, in the state that it has (rule 5.3)
   land : {past : Trail} {r c r′ c′ : ℕ} {s : PointerState} → rule (station r c s ∷ past) ≡ false → lookOf p r c (s .dp) ≡ Coloured r′ c′
       → Slide p rule past r c s (station r c s ∷ past) (Landed r′ c′ s)
 

@@ -1,5 +1,4 @@
--- The trail that a slide over white leaves, and when a slide is lost by it (document 01, "Regions and exits"). Assumes
--- nothing.
+-- The trail that a slide over white leaves, and when a slide is lost by it (rule 5.4). Assumes nothing.
 use mathlib.Core.Bool.{Bool, cond}
 use mathlib.Core.List.{List, [], _∷_}
 use Prim.Native.Nat.{ℕ, _+_}
@@ -29,7 +28,7 @@ turnsOf (a ∷ b ∷ t) = cond (eqb (a .dp) (b .dp)) 0 1 + turnsOf (b ∷ t)
 abbrev pub Rule : Type 0
 Rule = Trail → Bool
 
--- "At the eighth turn, counted over the whole slide, the attempt is not open"
+-- a slide is lost at its eighth turn, counted over all of it (rule 5.4)
 abbrev pub mostTurns : ℕ
 mostTurns = 8
 

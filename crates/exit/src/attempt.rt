@@ -7,7 +7,7 @@ use crate::slide::Slid;
 use flow::PointerState;
 use picture::shape::Shape;
 
-// The boundary is shut; it is the coloured codel at (row, col); it is the white codel at (row, col), and the slide from
+// What is ahead is shut; it is the coloured codel at (row, col); it is the white codel at (row, col), and the slide from
 // there is lost, or lands. The white codel is kept in both, since its region is found even where the slide is lost.
 pub enum Way {
     Closed,
@@ -28,7 +28,7 @@ pub enum Way {
     },
 }
 
-// From the codel to leave by to the boundary, "one codel further", and from a white boundary on by its slide.
+// From the codel to leave by one codel along dp (rule 4.3), and from a white one on by its slide (rule 5.1).
 pub fn attempt_from(colours: &[u8], s: Shape, row: usize, col: usize, from: PointerState) -> Way
     requires { ⌜ Frames (now colours) s × Inside (pictureOf (now colours) s) row col × Valid from ⌝ }
     ensures { λ r. ⌜ Attempt (pictureOf (now (colours .entry)) s) row col from r ⌝ }

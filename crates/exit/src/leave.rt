@@ -1,5 +1,4 @@
-// The codel to leave each region by, for the eight pointer states (`possible_exits`): "the furthest toward dp and among
-// those the furthest toward cc, seen facing dp".
+// The codel to leave each region by, for the eight pointer states (rule 4.2; `possible_exits`).
 ghost use mathlib.Core.Path.{_≡_};
 ghost use Prim.Native.Nat.{_*_, _<_};
 ghost use lib.ListN.{length, replicate};

@@ -10,10 +10,10 @@ use flow::Beyond;
 use flow::PointerState;
 use picture::shape::Shape;
 
-// "At the eighth turn, counted over the whole slide, the attempt is not open."
+// A slide is lost at its eighth turn, counted over all of it (rule 5.4).
 const LAST_TURN: u8 = 8;
 
-// What stands one codel along dp. "Shut: outside or black."
+// What stands one codel along dp; black and what is outside are shut (rule 4.3).
 pub enum Sight {
     Shut,
     White { row: usize, col: usize },

@@ -1,5 +1,5 @@
--- The order of attempts: the page's and document 01's are one, no two states tie, and attempt and offset are each
--- other's inverse. Assumes nothing.
+-- The order of attempts (rule 4.5): the page's turns and the Rust's number for them are one order, no two states have the same
+-- number, and attempt and offset are each other's inverse. Assumes nothing.
 use mathlib.Core.Path.{_≡_, refl, sym, ap, subst, _∙_}
 use mathlib.Core.Bool.{Bool, true, false, cond}
 use Prim.Native.Nat.{ℕ, zero, suc, _+_, _/_, _%_, _<_}
@@ -83,7 +83,7 @@ target-table : (s t : ℕ) → s < 8 → t < 8 → stateNumber (attemptOf (ofNum
 unfolding target-test attemptOf
 target-table s t hs ht = eqb→eq _ _ (all-at 8 (target-test s) (all-at 8 (λ x. all 8 (target-test x)) tt s hs) t ht)
 
--- what the code computes is the page's k-th attempt
+-- what the code computes is the k-th attempt
 pub attempted-is : (p : PointerState) (k : ℕ) → Valid p → k < 8 → attempted p k ≡ attemptOf p k
 attempted-is p k h hk =
     sym (of-number (attempted p k) (record { dp = omega arith; cc = omega arith }))
@@ -92,7 +92,7 @@ attempted-is p k h hk =
     (attempt-table (stateNumber p) k (number-small p h) hk))
     ∙ of-number (attemptOf p k) (valid-attempt p k h)
 
--- document 01's number of the page's k-th attempt is k
+-- the Rust's number of the k-th attempt is k (rule 4.5)
 pub offset-attempt : (p : PointerState) (k : ℕ) → Valid p → k < 8 → offsetOf p (attemptOf p k) ≡ k
 offset-attempt p k h hk =
     subst (λ (q : PointerState). offsetOf q (attemptOf q k) ≡ k) (of-number p h)
@@ -103,7 +103,7 @@ offset-attempt p k h hk =
 pub offset-example : (Valid (ofNumber 5) × Valid (ofNumber 4)) × (offsetOf (ofNumber 5) (ofNumber 4) ≡ 1)
 offset-example = ((valid-number 5 (omega arith), valid-number 4 (omega arith)), refl)
 
--- the attempt with a state's number is that state: "No two states tie"
+-- the attempt with a state's number is that state: no two states have the same (rule 4.5)
 pub attempt-offset : (p t : PointerState) → Valid p → Valid t → attemptOf p (offsetOf p t) ≡ t
 attempt-offset p t hp ht =
     sym (of-number (attemptOf p (offsetOf p t)) (valid-attempt p (offsetOf p t) hp))

@@ -1,4 +1,4 @@
--- The codel one step along dp, or none at the edge of a grid (the page, "Start and motion"). Assumes nothing.
+-- The codel one step along dp, or none at the edge of a grid (rules 4.3, 14.6). Assumes nothing.
 use mathlib.Core.Bool.{Bool, true, false}
 use Prim.Native.Nat.{ℕ, zero, suc, _+_, _-_}
 use lib.Dec.{ltb}

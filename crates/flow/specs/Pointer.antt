@@ -1,4 +1,4 @@
--- A pointer state and what turns it (document 01, "Regions and exits"; the page, "Start and motion").
+-- A pointer state (rule 4.1) and what turns it (rules 4.5, 5.2, 9.7).
 -- dp right, down, left, up is 0 to 3; cc left, right is 0, 1. Assumes nothing.
 use mathlib.Core.Bool.{cond}
 use Prim.Native.Nat.{ℕ, zero, suc, _+_, _-_, _*_, _/_, _%_, _<_}
@@ -11,25 +11,25 @@ pub record Valid (p : PointerState) : Type 0 where
   pub dp : p .dp < 4
   pub cc : p .cc < 2
 
--- "A pointer state is 2 x dp + cc"
+-- the number of a state (rule 4.1)
 abbrev pub stateNumber : PointerState → ℕ
 stateNumber p = 2 * p .dp + p .cc
 
 abbrev pub ofNumber : ℕ → PointerState
 ofNumber s = record { dp = s / 2; cc = s % 2 }
 
--- "Execution starts .. the direction pointer right, the codel chooser left"
+-- dp right, cc left (rules 8.1, 14.4)
 abbrev pub startState : PointerState
 startState = record { dp = 0; cc = 0 }
 
--- Ptr: dp turns clockwise n times, anticlockwise where n is negative. Swi: cc flips n times
+-- Ptr: dp turns clockwise n times, anticlockwise where n is negative. Swi: cc flips n times (rule 9.7)
 abbrev pub rotated : PointerState → ℤ → PointerState
 rotated p n = record { dp = (p .dp + residue n 4) % 4; cc = p .cc }
 
 abbrev pub switched : PointerState → ℤ → PointerState
 switched p n = record { dp = p .dp; cc = (p .cc + residue n 2) % 2 }
 
--- dp one quarter clockwise; cc to the other side; both, as a slide turns where it is shut
+-- dp one quarter clockwise; cc to the other side; both, as a slide turns where it is shut (rule 5.2)
 abbrev pub clockwise : PointerState → PointerState
 clockwise p = record { dp = (p .dp + 1) % 4; cc = p .cc }
 
@@ -39,7 +39,7 @@ flipped p = record { dp = p .dp; cc = 1 - p .cc }
 abbrev pub turnedOnce : PointerState → PointerState
 turnedOnce p = clockwise (flipped p)
 
--- the page's order of attempts: after a failed one cc flips, after the next dp turns clockwise, and so on, alternately
+-- the page's order of attempts: cc flips after a failed one, dp turns clockwise after the next, alternately (rules 4.5, 14.7)
 abbrev pub afterFailed : ℕ → PointerState → PointerState
 afterFailed k p = cond (eqb (k % 2) 0) (flipped p) (clockwise p)
 
@@ -48,8 +48,7 @@ unfoldable pub attemptOf : PointerState → ℕ → PointerState
 attemptOf p zero = p
 attemptOf p (suc k) = afterFailed k (attemptOf p k)
 
--- document 01's order of attempts, `find_offset`: "with dd = (target dp - dp) mod 4 and d = 1 where cc differs,
--- 2 x dd + (d xor (dd mod 2))"; the exclusive or of two bits is their sum's remainder
+-- the Rust's number of an attempt, `find_offset` (rule 4.5); the exclusive or of two bits is their sum's remainder
 abbrev pub xor : ℕ → ℕ → ℕ
 xor a b = (a + b) % 2
 

@@ -1,5 +1,4 @@
--- The worked job of document 01, "The run program", on its table, and the order of the stops, by computation.
--- Assumes nothing.
+-- The worked job of rule 13 on its table, and the order of the stops (rule 8.2), by computation. Assumes nothing.
 use mathlib.Core.Path.{_≡_, refl}
 use mathlib.Core.Bool.{Bool, true, false}
 use mathlib.Core.List.{List, [], _∷_}
@@ -15,7 +14,7 @@ use Rattle.interpreter.specs.Forever as Forever
 use Rattle.interpreter.specs.Run.{arrive, after, runOf}
 use Rattle.interpreter.specs.Outcome.{refused, answer, leftOf}
 
--- light red beside red: "exits 524,290 and 589,826 (states 0, 1), 1,310,721 and 1,376,257 (states 4, 5)"
+-- light red beside red, with the exits of rule 7.3's example
 abbrev rows : List ℕ
 rows = 12 ∷ 1 ∷ 0 ∷ 0 ∷ 1 ∷ 6 ∷ 1 ∷ 0 ∷ 1 ∷ 1 ∷ []
 
@@ -30,7 +29,7 @@ with limit mode = given (record { limit = limit; «abstract_mode» = mode }) []
 abbrev used : Slices
 used = slices (pos 7 ∷ pos 8 ∷ pos 9 ∷ []) (5 ∷ []) (pos 6 ∷ pos 6 ∷ [])
 
--- "status 2, steps 3, at RegRed_0_1 0 0, stack 1 1, out 0"; all other cells hold 0
+-- the worked job's result, in numbers; all other cells hold 0 (rule 8.6)
 pub job : (answer 2 rows exits (with 3 false) used ≡ numbers 0 (2 ∷ 3 ∷ 1 ∷ 0 ∷ 0 ∷ 1 ∷ 0 ∷ 0 ∷ []))
     × (leftOf 2 rows exits (with 3 false) used ≡ slices (pos 1 ∷ pos 0 ∷ pos 0 ∷ []) (0 ∷ []) (pos 0 ∷ pos 0 ∷ []))
 unfolding attemptOf pop statusOf exec fitting openFrom any arrive after runOf first
@@ -55,7 +54,7 @@ abbrev alone : ℕ → ℕ → Bool → Numbers
 alone exit limit mode =
     answer 1 (6 ∷ 3 ∷ 0 ∷ 0 ∷ 1 ∷ []) (exit ∷ 0 ∷ 0 ∷ 0 ∷ 0 ∷ 0 ∷ 0 ∷ 0 ∷ []) (with limit mode) (slices [] [] [])
 
--- no exit: "Completed, 0 steps; limit 0, MaxSteps"
+-- no exit: Completed after 0 steps; with the limit 0, MaxSteps (rule 8.2)
 pub stops-at-once : (alone 0 5 false ≡ numbers 0 (1 ∷ 0 ∷ 0 ∷ 0 ∷ 0 ∷ 0 ∷ 0 ∷ 0 ∷ []))
     × (alone 0 0 false ≡ numbers 0 (2 ∷ 0 ∷ 0 ∷ 0 ∷ 0 ∷ 0 ∷ 0 ∷ 0 ∷ []))
 unfolding attemptOf statusOf openFrom any after runOf first

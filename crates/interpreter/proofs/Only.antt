@@ -44,7 +44,7 @@ module _ (n : ℕ) (rows exits : List ℕ) (g : Given) (l : Slices) where
           let b = refuses n rows exits g l q v in
           (a .0 ∙ sym (b .0), a .1 ∙ sym (b .1))
 
-  -- 10 exactly where the table is not valid, and then "no lent byte changes"
+  -- 10 exactly where the table is not valid (rule 12.6), and then what is lent is as it was (rule 12.1)
   pub record Refusal (r : Ran) (l′ : Slices) : Type 0 where
     pub given : validOf n rows exits ≡ false → numbered r ≡ refused 10
     pub only-then : (values : List ℕ) → numbered r ≡ numbers 10 values → validOf n rows exits ≡ false

@@ -1,5 +1,4 @@
--- "`determine_runs_forever`: yes exactly when every node row has a non-zero exit; refusal 10 as for the run" (document 01,
--- "Regions and exits"). Assumes nothing.
+-- `determine_runs_forever`: whether each node has an exit that is not 0 (rule 7.5); refusal 10 (rule 12.6). Assumes nothing.
 use mathlib.Core.Bool.{Bool, not, cond, _||_}
 use mathlib.Core.List.{List, [], _∷_}
 use Prim.Native.Nat.{ℕ}
@@ -18,7 +17,7 @@ closed exits region = every (λ s. eqb (exitAt exits region s) 0) 8
 abbrev pub onward : List ℕ → List ℕ → ℕ → Bool
 onward rows exits region = eqb (markOf rows region) 0 || not (closed exits region)
 
--- the answer in document 01's numbers: 1 for yes, 0 for no
+-- the answer in numbers (rule 12.2): 1 for yes, 0 for no
 unfoldable pub numbered : Forever → Numbers
 numbered Refused = numbers 10 (0 ∷ [])
 numbered Yes = numbers 0 (1 ∷ [])

@@ -1,4 +1,4 @@
--- What a call of a run answers and leaves in the lent slices (document 01, "The run"). Assumes nothing.
+-- What a call of a run answers and leaves in the lent slices (rules 8.5, 8.6). Assumes nothing.
 use mathlib.Core.Path.{_≡_}
 use mathlib.Core.List.{List, [], _∷_, _++_, map, reverse}
 use Prim.Native.Nat.{ℕ, _-_}
@@ -17,8 +17,7 @@ use Rattle.interpreter.specs.declared.Ran.the-variants.{Refused, Finishe
 use Rattle.interpreter.specs.Table.{wrongTable}
 use Rattle.interpreter.specs.Run.{Job, ran}
 
--- the cells of a slice: "Stack cell 0 is the bottom", outputs are in order, and "all cells past the depth or the output
--- count, in each slice to its end, hold 0 on return"
+-- the cells of a slice: the stack from its bottom, the outputs in order, and zeros to the slice's end (rule 8.6)
 abbrev pub cellsOf : ℕ → List ℤ → List ℤ
 cellsOf room s = reverse s ++ replicate (room - length s) (pos 0)
 
@@ -41,7 +40,7 @@ placeOf m = record { region = m .region; steps = m .steps; core = coreOf (m .sto
 abbrev pub endedOf : End → Ended
 endedOf e = record { stop = e .stop; at = placeOf (e .at) }
 
--- "The result: status, steps, region, dp, cc, depth, outputs, input bytes used"
+-- the eight numbers of a result (rule 8.5)
 abbrev pub resultOf : Ended → List ℕ
 resultOf e =
     statusOf (e .stop) ∷ e .at .steps ∷ e .at .region ∷ e .at .core .pointers .dp ∷ e .at .core .pointers .cc ∷ e .at .core .depth
@@ -49,16 +48,16 @@ resultOf e =
     ∷ e .at .core .reading .used
     ∷ []
 
--- "A refusal returns its number, .. zeros elsewhere"
+-- a refusal has zeros beside its number (rule 12.1)
 abbrev pub refused : ℕ → Numbers
 refused number = numbers number (0 ∷ 0 ∷ 0 ∷ 0 ∷ 0 ∷ 0 ∷ 0 ∷ 0 ∷ [])
 
--- the answer in document 01's numbers
+-- the answer in numbers (rules 8.5, 12.2)
 unfoldable pub numbered : Ran → Numbers
 numbered (Refused number) = refused number
 numbered (Finished e) = numbers 0 (resultOf e)
 
--- the refusals of the call: "10 Table"
+-- the refusals of the call: 10 alone (rule 12.6)
 abbrev pub refusals : ℕ → List ℕ → List ℕ → List Row
 refusals n rows exits = row (wrongTable n rows exits) (refused 10) ∷ []
 
@@ -69,7 +68,7 @@ jobOf rows exits g l = record { rows = rows; exits = exits; given = g; room = ro
 abbrev pub endOf : List ℕ → List ℕ → Given → Slices → End
 endOf rows exits g l = ran (jobOf rows exits g l)
 
--- what is answered; and what the lent slices hold then: "no lent byte changes" where the call is refused
+-- what is answered; and what the lent slices hold then: what they held, where the call is refused (rule 12.1)
 abbrev pub answer : ℕ → List ℕ → List ℕ → Given → Slices → Numbers
 answer n rows exits g l = first (refusals n rows exits) (numbers 0 (resultOf (endedOf (endOf rows exits g l))))
 

@@ -1,5 +1,4 @@
--- One step over a table, and steps until a stop (document 01, "The run"). A run recurses on what is left of the limit.
--- Assumes nothing.
+-- One step over a table, and steps until a stop (rules 8.2, 8.3). A run recurses on what is left of the limit. Assumes nothing.
 use mathlib.Core.Bool.{cond}
 use mathlib.Core.List.{List}
 use Prim.Native.Nat.{ℕ, zero, suc, _+_}
@@ -24,7 +23,7 @@ pub data Went : Type 0 where
   goes : Machine → Went
   halts : Stop → Went
 
--- where the instruction is kept: at the exit's target, "count one". "A step that can't be kept isn't taken"
+-- where the instruction is kept: at the exit's target, one step more (rule 8.3); else the step is not taken (rule 11)
 unfoldable pub arrive : ℕ → Machine → Out → Went
 arrive w m (keeps s) = goes (record { region = targetOf w; steps = m .steps + 1; store = s })
 arrive w m (stops s) = halts s
@@ -34,18 +33,18 @@ module _ (j : Job) where
   abbrev pub exitFrom : Machine → ℕ
   exitFrom m = exitOf (j .exits) (m .region) (m .store .pointers)
 
-  -- "the step: move, set the pointers, execute with the size of the block just left", by the exit w
+  -- by the exit w: the pointers are set, and its instruction works with the size of the block just left (rule 8.3)
   abbrev pub effectOf : ℕ → Machine → Effect
   effectOf w m = exec (j .given) (sizeOf (j .rows) (m .region)) (opOf w) (withPointers (pointersOf w) (m .store))
 
   abbrev pub through : ℕ → Machine → Went
   through w m = arrive w m (fitting (j .room) (effectOf w m))
 
-  -- "no open attempt, 1 Completed. Then the step"
+  -- the last test before a step: Completed, where no attempt is open (rules 8.2, 11.1)
   abbrev pub leave : ℕ → Machine → Went
   leave w m = cond (eqb w 0) (halts Completed) (through w m)
 
-  -- "in abstract mode after an input instruction, 3 NeedsInput"
+  -- the test before that: NeedsInput, where input is awaited (rules 8.2, 11.3)
   abbrev pub stepOf : Machine → Went
   stepOf m = cond (m .store .reading .awaiting) (halts NeedsInput) (leave (exitFrom m) m)
 
@@ -53,7 +52,7 @@ unfoldable pub after : (Machine → End) → Machine → Went → End
 after more m (goes m′) = more m′
 after more m (halts s) = record { stop = s; at = m }
 
--- at most `left` steps more. "Before each step, in this order: steps equal to the limit, status 2 MaxSteps" comes first
+-- at most `left` steps more; the first test before a step is the limit's, MaxSteps (rules 8.2, 11.2)
 unfoldable pub runOf : Job → ℕ → Machine → End
 runOf j zero m = record { stop = MaxSteps; at = m }
 runOf j (suc left) m = after (runOf j left) m (stepOf j m)

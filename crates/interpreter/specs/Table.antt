@@ -1,5 +1,5 @@
--- The lent table as a run reads it: refusal 10, a region's size, and the exit taken (document 01, "The run" and "Regions and
--- exits"). Where rows and exits stand, and what an exit number says, is the crate table's. Assumes nothing.
+-- The lent table as a run reads it: refusal 10 (rule 12.2), and the exit taken (rule 8.3). Where rows and exits stand, and what
+-- an exit number says, is the crate table's. Assumes nothing.
 use mathlib.Core.Bool.{Bool, true, false, cond, not, _&&_, _||_}
 use mathlib.Core.List.{List}
 use Prim.Native.Nat.{ℕ, zero, suc, _<_, _≤_}
@@ -28,7 +28,7 @@ unfoldable pub openFrom : List ℕ → ℕ → PointerState → ℕ → ℕ → 
 openFrom exits region p zero k = 0
 openFrom exits region p (suc j) k = cond (eqb (tried exits region p k) 0) (openFrom exits region p j (suc k)) (tried exits region p k)
 
--- the exit taken, of the eight attempts in their order; 0 where there is "no open attempt"
+-- the exit taken, of the eight attempts in their order; 0 where none is open (rule 8.3)
 abbrev pub exitOf : List ℕ → ℕ → PointerState → ℕ
 exitOf exits region p = openFrom exits region p 8 0
 
@@ -41,19 +41,19 @@ unfoldable pub every : (ℕ → Bool) → ℕ → Bool
 every f zero = true
 every f (suc n) = f n && every f n
 
--- "Refusal 10: n is 0 or above 65,536,
+-- refusal 10, clause by clause (rule 12.2): no regions, or too many
 abbrev pub wrongCount : ℕ → Bool
 wrongCount n = eqb n 0 || ltb 65536 n
 
--- rows or exits short of 5n or 8n,
+-- too few cells of rows or exits for n regions
 abbrev pub tooShort : ℕ → List ℕ → List ℕ → Bool
 tooShort n rows exits = ltb (length rows) (rowsRoom n) || ltb (length exits) (exitsRoom n)
 
--- a node mark above 1,
+-- a node mark that is neither 0 nor 1
 abbrev pub wrongMark : List ℕ → ℕ → Bool
 wrongMark rows region = ltb 1 (markOf rows region)
 
--- or an exit above 9,437,184 or with a target not below n"; 0, which is no exit, reads as target 0
+-- an exit above the largest, or whose target is no region; 0, which is no exit, reads as target 0
 abbrev pub wrongExit : ℕ → ℕ → Bool
 wrongExit n w = ltb largestExit w || leb n (targetOf w)
 

@@ -1,4 +1,4 @@
-// Whether every node row has a non-zero exit.
+// Whether every node has an exit that is not 0 (rule 7.5).
 ghost use mathlib.Core.Path.{_≡_};
 ghost use Prim.Native.Nat.{_+_, _<_, _≤_};
 ghost use lib.ListN.{length};
@@ -58,7 +58,7 @@ fn all_onward(rows: &[u32], exits: &[u32], n: usize) -> bool
     true
 }
 
-// Whether every node row has a non-zero exit; refusal 10 as for the run.
+// Whether the table runs forever (rule 7.5); refusal 10 as for the run (rule 12.6).
 pub fn determine_runs_forever(n: usize, rows: &[u32], exits: &[u32]) -> Forever
     ensures { λ r. ⌜ numbered r ≡ answer n (now (rows .entry)) (now (exits .entry)) ⌝ }
 {

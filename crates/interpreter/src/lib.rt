@@ -1,4 +1,4 @@
-// The run over a lent table of regions and exits (document 01, "The run"), and `determine_runs_forever`.
+// The run over a lent table of regions and exits (rule 8), and `determine_runs_forever` (rule 7.5).
 mod endless;
 mod running;
 mod stepping;

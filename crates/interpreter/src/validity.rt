@@ -1,4 +1,4 @@
-// Whether a lent table is one of n regions: refusal 10.
+// Whether a lent table is one of n regions: refusal 10 (rule 12.2).
 ghost use mathlib.Core.Path.{_≡_};
 ghost use Prim.Native.Nat.{_<_, _≤_};
 ghost use lib.ListN.{length};
@@ -13,7 +13,7 @@ use table::target_of;
 // The number of the refusal.
 pub const WRONG_TABLE: u32 = 10;
 
-// "n is 0 or above 65,536", "an exit above 9,437,184".
+// The bounds that refusal 10 asks for.
 const MOST_REGIONS: usize = 65536;
 
 const LARGEST_EXIT: u32 = 9437184;

@@ -1,5 +1,5 @@
--- The definitions at document 01's corners and at `test_roll`'s numbers (two of which are P lines: p_lines' specs/Table.antt);
--- stacks are written top first. `negsuc n` is -(n + 1). Assumes nothing.
+-- The definitions at the corners of rule 9 and at `test_roll`'s numbers (two of which are rule 9.8's examples: p_lines'
+-- specs/Table.antt); stacks are written top first. `negsuc n` is -(n + 1). Assumes nothing.
 use mathlib.Core.Path.{_≡_, refl}
 use mathlib.Core.List.{[], _∷_}
 use lib.IntN.{pos, negsuc}
@@ -7,7 +7,8 @@ use Rattle.word.specs.Word.{residue, signed64, wrap, isZero, quotient, remainde
 use Rattle.stack.specs.declared.Pairing.the-variants.{Add, Sub, Div, Mod, Gt}
 use Rattle.stack.specs.Instr.{binary, combined, pair, not, turn, places, rolled, roll}
 
--- "Top a, second b": 5 - 2, 5 > 2; "Div or Mod by 0, Mod by -2^63 ..: both values are gone"
+-- with 2 on top 5 - 2 and 5 > 2 (rules 9.3, 9.6); Div by 0 and Mod by -2^63 drop both values (rules 9.4, 9.5); one value is too
+-- few (rule 9.1)
 pub pairs : (pair Sub (pos 2 ∷ pos 5 ∷ []) ≡ pos 3 ∷ [])
     × (pair Gt (pos 2 ∷ pos 5 ∷ []) ≡ pos 1 ∷ [])
     × (pair Div (pos 0 ∷ pos 5 ∷ pos 4 ∷ []) ≡ pos 4 ∷ [])
@@ -22,8 +23,8 @@ pub test-roll : (roll (negsuc 0 ∷ pos 2 ∷ pos 6 ∷ pos 5 ∷ pos 4 ∷ []) 
 unfolding residue turn places rolled roll
 test-roll = (refl, refl)
 
--- "a = -2^63 rolls by its residue", here 1 modulo 3; "n = 0 drops both"; "n negative or above the remaining depth: both
--- values are gone"; "Too few values: nothing is popped"
+-- a roll by -2^63, which is 1 modulo 3; depths that roll nothing: 0, negative, above the values left (rule 9.8); one value is
+-- too few (rule 9.1)
 pub roll-corners : (roll (negsuc 9223372036854775807 ∷ pos 3 ∷ pos 6 ∷ pos 5 ∷ pos 4 ∷ []) ≡ pos 5 ∷ pos 4 ∷ pos 6 ∷ [])
     × (roll (pos 1 ∷ pos 0 ∷ pos 6 ∷ pos 5 ∷ []) ≡ pos 6 ∷ pos 5 ∷ [])
     × (roll (negsuc 9223372036854775807 ∷ pos 0 ∷ pos 6 ∷ pos 5 ∷ []) ≡ pos 6 ∷ pos 5 ∷ [])
@@ -33,7 +34,7 @@ pub roll-corners : (roll (negsuc 9223372036854775807 ∷ pos 3 ∷ pos 6 ∷ pos
 unfolding residue turn places rolled roll
 roll-corners = (refl, refl, refl, refl, refl, refl)
 
--- "Not: 0 to 1, all else to 0"
+-- Not (rule 9.6), and of an empty stack (rule 9.1)
 pub nots : (not (pos 0 ∷ []) ≡ pos 1 ∷ []) × (not (negsuc 0 ∷ []) ≡ pos 0 ∷ []) × (not [] ≡ [])
 unfolding isZero not
 nots = (refl, refl, refl)

@@ -28,7 +28,7 @@ pub record Slices : Type 0 where
 abbrev pub slices : List ℤ → List ℕ → List ℤ → Slices
 slices stack kinds values = record { stack = stack; kinds = kinds; values = values }
 
--- their room; of the outputs, "room is the shorter of the two slices"
+-- their room; that of the outputs is the shorter slice's (rule 8.6)
 abbrev pub roomOf : Slices → RunRoom
 roomOf l = record { stack = length (l .stack); outs = min (length (l .kinds)) (length (l .values)) }
 
@@ -41,7 +41,7 @@ storeOf l at = record {
   reading = at .reading;
 }
 
--- "All cells past the depth or the output count, in each slice to its end, hold 0", and the pointers are a state
+-- the cells past the depth and the count of outputs are 0 (rule 8.6), and the pointers are a state
 pub record Stands (l : Slices) (at : Core) : Type 0 where
   pub lies : Lies (l .stack) (at .depth)
   pub holds : Holds (l .kinds) (l .values) (at .outputs)
@@ -52,7 +52,7 @@ unfoldable pub outOf : Slices → Done → Out
 outOf l (Kept at) = keeps (storeOf l at)
 outOf l (Stops s) = stops s
 
--- "A step that can't be kept isn't taken, and everything stands as before it"
+-- a step that can't be kept leaves everything as it was (rule 11)
 unfoldable pub After : Slices → Slices → Done → Type 0
 After l l′ (Kept at) = Stands l′ at
 After l l′ (Stops s) = l′ ≡ l

@@ -1,4 +1,4 @@
--- What an instruction works on, and what each of the seventeen does to it (document 01, "The run"). Assumes nothing.
+-- What an instruction works on, and what each of the seventeen does to it (rules 9, 10, 11). Assumes nothing.
 use mathlib.Core.Bool.{true, cond}
 use mathlib.Core.List.{List, [], _∷_, _++_}
 use Prim.Native.Nat.{ℕ}
@@ -22,7 +22,7 @@ use Rattle.machine.specs.declared.Stop.{Stop}
 use Rattle.machine.specs.declared.Stop.the-variants.{Completed, MaxSteps, NeedsInput, StackFull, OutputFull, BadInput}
 use Rattle.machine.specs.Output.{Emit, ofTop, charOut, intOut}
 
--- "Instructions are 1 to 17 in the order of `Instruction`, Push 1 to IntOut 17; 0 is none"
+-- the instructions by number (rule 1.5)
 abbrev pub ops : List Op
 ops =
     Nothing ∷ Push ∷ Pop ∷ Pair Add ∷ Pair Sub ∷ Pair Mul ∷ Pair Div ∷ Pair Mod ∷ Not ∷ Pair Gt ∷ Ptr ∷ Swi ∷ Dup ∷ Roll ∷ CharIn ∷ CharOut ∷ IntIn ∷ IntOut
@@ -31,7 +31,7 @@ ops =
 abbrev pub opNumbered : ℕ → Op
 opNumbered n = getD ops n Nothing
 
--- the status of a run that stops: "1 Completed", "2 MaxSteps", "3 NeedsInput", "4 StackFull", "5 OutputFull", "6 BadInput"
+-- the status of a run that stops (rules 11.1 to 11.6)
 unfoldable pub statusOf : Stop → ℕ
 statusOf Completed = 1
 statusOf MaxSteps = 2
@@ -90,7 +90,7 @@ withUsed n m = withReading (usedTo n (m .reading)) m
 abbrev pub waiting : Store → Store
 waiting m = withReading (waitsFor (m .reading)) m
 
--- what an instruction comes to; `bad-input` where "the line it would read is not UTF-8"
+-- what an instruction comes to; `bad-input` where its line is not UTF-8 (rule 11.6)
 pub data Effect : Type 0 where
   does : Store → Effect
   bad-input : Effect
@@ -99,7 +99,7 @@ pub data Effect : Type 0 where
 abbrev pub onStack : (List ℤ → List ℤ) → Store → Effect
 onStack f m = does (withStack (f (m .stack)) m)
 
--- Ptr, Swi: the pointers turn by the top, which goes
+-- Ptr, Swi: the pointers turn by the top, which goes (rule 9.7)
 unfoldable pub byTop : (PointerState → ℤ → PointerState) → List ℤ → PointerState → PointerState
 byTop f [] p = p
 byTop f (a ∷ s) p = f p a
@@ -107,21 +107,21 @@ byTop f (a ∷ s) p = f p a
 unfoldable pub turn : (PointerState → ℤ → PointerState) → Store → Effect
 turn f m = does (withStack (Instr.pop (m .stack)) (withPointers (byTop f (m .stack) (m .pointers)) m))
 
--- CharOut, IntOut: what the top gives is emitted, and the top goes
+-- CharOut, IntOut: what the top gives is emitted, and the top goes (rule 9.9)
 unfoldable pub write : (ℤ → List Emit) → Store → Effect
 write f m = does (withStack (Instr.pop (m .stack)) (withOuts (m .outs ++ ofTop f (m .stack)) m))
 
--- CharIn, IntIn: "a line either gives a number or the step is skipped, counted, the line gone"
+-- CharIn, IntIn: the line is gone, and what it gives, if anything, is pushed (rule 10.4)
 unfoldable pub take : Taken → Store → Effect
 take (Line.Push v n) m = does (withUsed n (withStack (v ∷ m .stack) m))
 take (Line.Skip n) m = does (withUsed n m)
 take Line.BadInput m = bad-input
 
--- "In abstract mode an input instruction reads and pushes nothing. Otherwise it consumes a line"
+-- in abstract mode nothing is read, and input is awaited (rule 10.7); else a line is taken (rule 10.1)
 unfoldable pub read : Given → (List ℕ → Number) → Store → Effect
 read g f m = cond (g .terms .«abstract_mode») (does (waiting m)) (take (takeOf f (g .input) (m .reading .used)) m)
 
--- one instruction; size is "the size of the block just left"
+-- one instruction; size is that of the block just left (rule 8.3)
 unfoldable pub exec : Given → ℕ → Op → Store → Effect
 exec g size Nothing m = does m
 exec g size Push m = onStack (Instr.push (pos size)) m
@@ -142,8 +142,7 @@ pub data Out : Type 0 where
   keeps : Store → Out
   stops : Stop → Out
 
--- "A step that can't be kept isn't taken": "6 BadInput (the line it would read is not UTF-8), 4 StackFull (the depth after
--- it would exceed the stack's room), 5 OutputFull (it would emit and no output cell is left), in that order"
+-- whether a step can be kept: BadInput is tested first, then the stack's room, then the outputs' (rules 11.4 to 11.7)
 unfoldable pub fitting : RunRoom → Effect → Out
 fitting room bad-input = stops BadInput
 fitting room (does m) =

@@ -1,5 +1,5 @@
--- Outputs in two lent slices (document 01, "The run"): "Outputs are a kind (1 char, 2 int) and an i64; room is the shorter
--- of the two slices", and the cells past the output count, "in each slice to its end", hold 0. Assumes nothing.
+-- Outputs in two lent slices, their kinds (1 character, 2 number) and their values; past the count both hold 0 (rule 8.6).
+-- Assumes nothing.
 use mathlib.Core.Path.{_≡_}
 use mathlib.Core.Bool.{cond}
 use mathlib.Core.List.{List, [], _∷_, _++_}
@@ -34,11 +34,11 @@ pub record Writes (es : List Emit) (kinds : List ℕ) (values : List ℤ) (n : �
   pub holds : Holds kinds′ values′ n′
   pub is : outsOf kinds′ values′ n′ ≡ outsOf kinds values n ++ es
 
--- IntOut emits the number that it pops
+-- IntOut emits the number that it pops (rule 9.9)
 abbrev pub intOut : ℤ → List Emit
 intOut v = record { kind = 2; value = v } ∷ []
 
--- "CharOut pops, keeps the low 32 bits, emits only a Unicode scalar"
+-- CharOut emits the low 32 bits of what it pops, where they are a Unicode scalar (rule 9.9)
 unfoldable pub char : ℕ → List Emit
 char u = cond (scalar u) (record { kind = 1; value = pos u } ∷ []) []
 
@@ -57,7 +57,7 @@ module _ (f : ℤ → List Emit) (stack : List ℤ) (d : ℕ) (kinds : List ℕ)
     pub pops : stackOf stack′ d′ ≡ Instr.pop (stackOf stack d)
     pub writes : Writes (ofTop f (stackOf stack d)) kinds values n kinds′ values′ n′
 
-  -- "it would emit and no output cell is left": "everything stands as before it"
+  -- there is no cell for what it would emit, and everything is as it was (rule 11.5)
   pub record Refuses (stack′ : List ℤ) (kinds′ : List ℕ) (values′ : List ℤ) : Type 0 where
     pub same-stack : stack′ ≡ stack
     pub same-kinds : kinds′ ≡ kinds

@@ -1,5 +1,4 @@
--- Where a run stands, where it starts, and where it ends (document 01, "The run"); nothing here speaks of a table.
--- Assumes nothing.
+-- Where a run stands, where it starts (rule 8.1), and where it ends; nothing here speaks of a table. Assumes nothing.
 use mathlib.Core.Bool.{false}
 use mathlib.Core.List.{[]}
 use Prim.Native.Nat.{ℕ}
@@ -13,7 +12,7 @@ pub record Machine : Type 0 where
   pub steps : ℕ
   pub store : Store
 
--- "a run starts with dp right, cc left, an empty stack and 0 steps", at region 0
+-- the start: region 0, and nothing done yet (rule 8.1)
 abbrev pub start : Machine
 start = record {
   region = 0;

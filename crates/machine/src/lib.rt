@@ -104,7 +104,7 @@ impl Core {
     }
 }
 
-// Document 01's number of a stop.
+// The status of a stop (rules 11.1 to 11.6).
 pub fn status(stop: Stop) -> u64
     ensures { λ r. ⌜ r ≡ statusOf stop ⌝ }
 {
@@ -118,7 +118,7 @@ pub fn status(stop: Stop) -> u64
     }
 }
 
-// The instruction with the number n: "1 to 17 in the order of `Instruction`"; every other number is none.
+// The instruction with the number n, 1 to 17 (rule 1.5); every other number is none.
 pub fn op_numbered(n: u32) -> Op
     ensures { λ r. ⌜ r ≡ opNumbered n ⌝ }
 {

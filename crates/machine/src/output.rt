@@ -67,7 +67,7 @@ pub fn int_out(
     put_out(stack, depth, kinds, values, n, 2, v)
 }
 
-// CharOut: "pops, keeps the low 32 bits, emits only a Unicode scalar". What emits nothing needs no output cell.
+// CharOut: the low 32 bits of the top, where they are a scalar (rule 9.9). What emits nothing needs no output cell (rule 11.7).
 pub fn char_out(
     stack: &mut [i64],
     depth: usize,

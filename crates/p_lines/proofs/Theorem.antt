@@ -1,4 +1,4 @@
--- Every P line of document 01 is what the definitions say; there are thirteen, and no question is asked twice.
+-- Each of the rules' examples is what the definitions say; there are thirteen, and no question is asked twice.
 -- Assumes nothing.
 use mathlib.Core.Path.{_≡_, refl}
 use mathlib.Core.Bool.{Bool, true, false, not, _||_}
@@ -24,7 +24,7 @@ pub p-lines : map (λ (l : PLine). answer (l .asks)) pLines ≡ map (λ (l : PLi
 unfolding residue signed64 wrap isZero quotient remainder decodeOf attemptOf roll rolled places turn char scalar within emitted
 p-lines = refl
 
--- "P from state 0 ..; P from 3 ..", three colour changes, four of b and a, two of Roll, two of CharOut
+-- two orders of attempts, three colour changes, four of b and a, two of Roll, two of CharOut
 pub thirteen : length pLines ≡ 13
 thirteen = refl
 

@@ -1,2 +1,2 @@
--- The P lines of document 01.
+-- The rules' examples.
 pub mod Table

@@ -1,5 +1,4 @@
--- "Jobs on either side (P: proved)": each P line of document 01 as a question and its answer, in its order.
--- Assumes nothing.
+-- The rules' examples (of 4.5, 1.4, 9.3 to 9.5, 9.8 and 9.9), each a question and its answer. Assumes nothing.
 use mathlib.Core.List.{List, [], _∷_, map}
 use Prim.Native.Nat.{ℕ}
 use lib.IntN.{ℤ, pos, negsuc, _+ℤ_}

@@ -1,4 +1,4 @@
--- A picture by its pixels' colours, and its codels (document 01, "Numbers that bound a job"). Assumes nothing.
+-- A picture by its pixels' colours, and its codels (rules 2.1 to 2.3). Assumes nothing.
 use mathlib.Core.Path.{_≡_}
 use mathlib.Core.List.{List}
 use Prim.Native.Nat.{ℕ, _+_, _-_, _*_, _/_, _%_, _<_, _≤_}
@@ -18,7 +18,7 @@ picture h w k xs = record { height = h; width = w; codel = k; colours = xs }
 abbrev pub ceil : ℕ → ℕ → ℕ
 ceil n k = (n + (k - 1)) / k
 
--- "The grid has ceil(height/codel) rows and ceil(width/codel) columns"
+-- the rows and columns of the grid, and how many codels it has (rule 2.2)
 abbrev pub rowsOf : Picture → ℕ
 rowsOf p = ceil (p .height) (p .codel)
 
@@ -33,7 +33,7 @@ pub record Inside (p : Picture) (row col : ℕ) : Type 0 where
   pub row-in : row < rowsOf p
   pub col-in : col < colsOf p
 
--- "A codel's colour is that of its top left pixel"
+-- a codel has its top left pixel's colour (rule 2.3)
 abbrev pub colourAt : Picture → ℕ → ℕ → ℕ
 colourAt p r c = getD (p .colours) (r * p .codel * p .width + c * p .codel) 0
 

@@ -11,6 +11,6 @@ use Rattle.picture.specs.declared.Read.the-variants.{Colour, Outside}
 abbrev pub cellAt : List ℕ → ℕ → Read
 cellAt prog i = cond (ltb i (length prog)) (Colour (getD prog i 0)) Outside
 
--- "a position is inside when its row is below the height and its column below the width"; the slice is in rows of width
+-- what stands at a position, if it is inside (rule 2.4); the slice is in rows of width
 unfoldable pub getAt : List ℕ → ℕ → ℕ → ℕ → ℕ → Read
 getAt prog height width row column = cond (ltb row height && ltb column width) (cellAt prog (row * width + column)) Outside

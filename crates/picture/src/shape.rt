@@ -21,7 +21,7 @@ fn codels(n: usize, k: usize) -> usize
     (n + (k - 1)) / k
 }
 
-// The shape of a picture whose sides and codel are within document 01's bounds.
+// The shape of a picture whose sides and codel are within bounds (rule 2.1).
 pub fn shape_of(height: usize, width: usize, codel: usize) -> Shape
     requires { ⌜ (height ≤ 1024) × (width ≤ 1024) × (0 < codel) × (codel ≤ 1024) ⌝ }
     ensures { λ r. ⌜ r ≡ framed height width codel ⌝ }

@@ -1,5 +1,4 @@
--- Codels that touch at a corner only are not joined: "joined by paths of up, down, left and right codel steps". Red is 6,
--- white 19. Assumes nothing.
+-- Codels that touch at a corner only are not joined (rule 3.1). Red is 6, white 19. Assumes nothing.
 use mathlib.Core.Path.{_≡_, refl, subst}
 use mathlib.Core.List.{List, [], _∷_}
 use Prim.Native.Nat.{ℕ, zero, suc}

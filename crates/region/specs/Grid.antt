@@ -1,4 +1,4 @@
--- The grid of codels of a picture, and the steps between codels (document 01, "Regions and exits").
+-- The grid of codels of a picture (rule 2.2), and the steps between codels (rule 3.1).
 -- A codel is given by its index, row by row: the codel in row r and column c has the index r x columns + c. Assumes nothing.
 use mathlib.Core.Path.{_≡_}
 use mathlib.Core.List.{List}
@@ -24,8 +24,8 @@ gridOf p = record { rows = rowsOf p; cols = colsOf p; colour = λ i. codelColour
 abbrev pub gridAt : List ℕ → Shape → Grid
 gridAt colours s = record { rows = s .rows; cols = s .cols; colour = λ i. colourAt (pictureOf colours s) (i / s .cols) (i % s .cols) }
 
--- "up, down, left and right codel steps": from i to j toward 0 it is one column right, toward 1 one row down, toward 2 one
--- column left, toward 3 one row up
+-- a step between codels: from i to j toward 0 it is one column right, toward 1 one row down, toward 2 one column left, toward
+-- 3 one row up
 unfoldable pub Toward : ℕ → ℕ → ℕ → ℕ → Type 0
 Toward cols zero i j = (j / cols ≡ i / cols) × (j % cols ≡ i % cols + 1)
 Toward cols (suc zero) i j = (j / cols ≡ i / cols + 1) × (j % cols ≡ i % cols)

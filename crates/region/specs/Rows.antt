@@ -1,4 +1,4 @@
--- The rows of the regions (document 01, "Building writes"). Assumes nothing.
+-- The rows of the regions (rule 7.2). Assumes nothing.
 use mathlib.Core.Path.{_≡_}
 use mathlib.Core.Logic.{_≢_}
 use mathlib.Core.List.{List}
@@ -14,8 +14,8 @@ pub record First (m : List ℕ) (n r i : ℕ) : Type 0 where
   pub has : getD m i 0 ≡ r
   pub none : (j : ℕ) → j < i → getD m j 0 ≢ r
 
--- "region rows, five u32 (colour, size, first pixel row and column, ..)": x has the colour, the size and the first pixel of
--- region r, where the map's codels below n are counted. The size is in codels, the first pixel in pixels
+-- x has the colour, the size and the first pixel of region r, where the map's codels below n are counted. The size is in codels
+-- (rule 3.3), the first pixel in pixels (rule 3.4)
 pub record Row (g : Grid) (codel n : ℕ) (m : List ℕ) (r : ℕ) (x : RowNumbers) : Type 0 where
   pub first : ℕ
   pub is-first : First m n r first
@@ -24,7 +24,7 @@ pub record Row (g : Grid) (codel n : ℕ) (m : List ℕ) (r : ℕ) (x : RowNumbe
   pub row : x .row ≡ first / g .cols * codel
   pub column : x .column ≡ first % g .cols * codel
 
--- a row for each of the n regions, no node being known yet; "row .. cells past the n regions, up to that room, become 0"
+-- a row for each of the n regions, no node being known yet; the rows past them are 0 (rule 7.4)
 pub record IsTable (g : Grid) (codel n : ℕ) (m t : List ℕ) : Type 0 where
   pub rows : (r : ℕ) → r < n → Row g codel (count g) m r (rowAt t r)
   pub unmarked : (r : ℕ) → r < n → rowAt t r .mark ≡ 0

@@ -1,5 +1,5 @@
--- How many of the first n elements of a list are x: "Its size is its codel count", where the list is the map and x the
--- region's number. Assumes nothing.
+-- How many of the first n elements of a list are x: a region's size (rule 3.3), where the list is the map and x the region's
+-- number. Assumes nothing.
 use mathlib.Core.Bool.{Bool, true, false}
 use mathlib.Core.List.{List, [], _∷_}
 use Prim.Native.Nat.{ℕ, zero, suc}

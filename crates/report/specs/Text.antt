@@ -1,4 +1,4 @@
--- The text that the run program prints (document 01, "The run program"). Each line ends with a newline. Assumes nothing.
+-- The text that the run program prints (rules 13.5, 13.6). Each line ends with a newline. Assumes nothing.
 use mathlib.Core.Bool.{cond}
 use mathlib.Core.List.{List, [], _∷_, _++_}
 use Prim.Native.Nat.{ℕ, suc}
@@ -24,7 +24,7 @@ unfoldable pub values : List ℤ → List ℕ
 values [] = []
 values (v ∷ vs) = value v ++ values vs
 
--- an output, after a space: "`c65`, `i-3`"; "a kind (1 char, 2 int) and an i64"
+-- an output, after a space: its kind's letter and its value, as `c65`, `i-3` (rule 13.5)
 abbrev pub letter : ℕ → List ℕ
 letter kind = cond (eqb kind 1) (ascii " c") (ascii " i")
 
@@ -42,11 +42,11 @@ counted word n = word ++ decimal n
 unfoldable pub line : List ℕ → ℕ → List ℕ
 line word n = counted word n ++ newline
 
--- "`at` has label, dp, cc"
+-- the line `at`: label, dp, cc
 unfoldable pub placeLine : List ℕ → ℕ → ℕ → List ℕ
 placeLine label dp cc = ascii "at " ++ label ++ counted (ascii " ") dp ++ line (ascii " ") cc
 
--- "`stack` and `out` a count and then values, top first, or .. in order"
+-- the lines `stack` and `out`: a count, and then the values, top first, or the outputs, in order
 unfoldable pub stackLine : List ℤ → List ℕ
 stackLine stack = counted (ascii "stack ") (length stack) ++ values stack ++ newline
 
@@ -58,6 +58,6 @@ unfoldable pub resultText : ℕ → ℕ → List ℕ → ℕ → ℕ → List �
 resultText status steps label dp cc stack outs =
     line (ascii "status ") status ++ line (ascii "steps ") steps ++ placeLine label dp cc ++ stackLine stack ++ outLine outs
 
--- "A refusal prints `refused N`"
+-- the line of a refused job (rule 13.6)
 unfoldable pub refusalText : ℕ → List ℕ
 refusalText number = line (ascii "refused ") number

@@ -60,7 +60,7 @@ fn put_value(out: &mut [u8], at: usize, v: i64) -> usize
     put_int(out, next, v)
 }
 
-// "`c65`, `i-3`": the letter tells the kind.
+// The letter tells the kind, as in `c65`, `i-3` (rule 13.5).
 fn put_letter(out: &mut [u8], at: usize, kind: u8) -> usize
     requires { ⌜ Room (now out) at (letter kind) ⌝ }
     ensures { λ r. ⌜ Put (now (out .entry)) at (letter kind) r (now (out .exit)) ⌝ }

@@ -1,4 +1,4 @@
--- What each instruction does to a stack, written top first (document 01, "The run"). Assumes nothing.
+-- What each instruction does to a stack, written top first (rules 9.1 to 9.6, 9.8). Assumes nothing.
 use mathlib.Core.Bool.{Bool, cond}
 use mathlib.Core.List.{List, [], _∷_, _++_, reverse}
 use Prim.Native.Nat.{ℕ, _-_}
@@ -13,12 +13,12 @@ use Rattle.stack.specs.declared.Pairing.the-variants.{Add, Sub, Mul, Div
 abbrev pub push : ℤ → List ℤ → List ℤ
 push v s = v ∷ s
 
--- "Too few values: nothing is popped"
+-- of an empty stack nothing goes (rule 9.1)
 unfoldable pub pop : List ℤ → List ℤ
 pop [] = []
 pop (a ∷ s) = s
 
--- "Top a, second b": both go, and what f gives of b and a comes. "Too few values: nothing is popped"
+-- a is on top, b below it: both go, and what f gives of b and a comes; one value is too few, and stays (rule 9.1)
 unfoldable pub binary : (ℤ → ℤ → List ℤ) → List ℤ → List ℤ
 binary f [] = []
 binary f (a ∷ []) = a ∷ []
@@ -27,8 +27,7 @@ binary f (a ∷ (b ∷ s)) = f b a ++ s
 abbrev pub bit : Bool → ℤ
 bit t = cond t (pos 1) (pos 0)
 
--- "Add, Sub (b - a), Mul wrap as the release build does. Div rounds toward zero and Mod is never negative: b modulo |a|.
--- Gt is b > a." "Div or Mod by 0, Mod by -2^63 ..: both values are gone"
+-- what comes for b and a (rules 9.3 to 9.6); where Div or Mod gives nothing both are gone
 unfoldable pub combined : Pairing → ℤ → ℤ → List ℤ
 combined Add b a = wrap (b +ℤ a) ∷ []
 combined Sub b a = wrap (b -ℤ a) ∷ []
@@ -40,7 +39,7 @@ combined Gt b a = bit (ltZ a b) ∷ []
 abbrev pub pair : Pairing → List ℤ → List ℤ
 pair op = binary (combined op)
 
--- "Not: 0 to 1, all else to 0"
+-- a 0 on top becomes 1, all else 0 (rule 9.6)
 unfoldable pub not : List ℤ → List ℤ
 not [] = []
 not (a ∷ s) = bit (isZero a) ∷ s
@@ -49,20 +48,20 @@ unfoldable pub dup : List ℤ → List ℤ
 dup [] = []
 dup (a ∷ s) = a ∷ a ∷ s
 
--- the top n values turned by k places: the k uppermost go below the others, "positive a buries the top"
+-- the top n values turned by k places: the k uppermost go below the others (rule 9.8)
 unfoldable pub turn : ℕ → ℕ → List ℤ → List ℤ
 turn n k s = drop k (take n s) ++ take k s ++ drop n s
 
--- how many of d values turn: n, or none for "n negative or above the remaining depth"
+-- how many of d values turn: n, or none where n is negative or above d (rule 9.8)
 unfoldable pub places : ℤ → ℕ → ℕ
 places (pos n) d = cond (ltb d n) 0 n
 places (negsuc n) d = 0
 
--- "n = 0 drops both; a = -2^63 rolls by its residue", as every a does
+-- m values rolled a times, a taken modulo m; of no values nothing rolls (rule 9.8)
 unfoldable pub rolled : ℕ → ℤ → List ℤ → List ℤ
 rolled m a s = cond (eqb m 0) s (turn m (residue a m) s)
 
--- "Roll: top a, depth n"
+-- a is on top, the depth n below it (rule 9.8)
 unfoldable pub roll : List ℤ → List ℤ
 roll [] = []
 roll (a ∷ []) = a ∷ []

@@ -1,5 +1,4 @@
--- A stack in a lent slice of cells (document 01, "The run"): "Stack cell 0 is the bottom", and the cells past the depth,
--- to the slice's end, "hold 0". Assumes nothing.
+-- A stack in a lent slice of cells: cell 0 is the bottom, and the cells past the depth are 0 (rule 8.6). Assumes nothing.
 use mathlib.Core.Path.{_≡_}
 use mathlib.Core.List.{List, [], _∷_}
 use Prim.Native.Nat.{ℕ, zero, suc, _<_, _≤_}
@@ -23,7 +22,7 @@ pub record Does (f : List ℤ → List ℤ) (cells : List ℤ) (d : ℕ) (cells�
   pub lies : Lies cells′ d′
   pub is : stackOf cells′ d′ ≡ f (stackOf cells d)
 
--- "the depth after it would exceed the stack's room": "everything stands as before it"
+-- there is no room for the stack after it, and everything is as it was (rule 11.4)
 pub record Overflows (f : List ℤ → List ℤ) (cells : List ℤ) (d : ℕ) (cells′ : List ℤ) : Type 0 where
   pub same : cells′ ≡ cells
   pub full : length cells < length (f (stackOf cells d))

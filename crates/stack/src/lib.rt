@@ -96,7 +96,7 @@ fn combine(op: Pairing, b: i64, a: i64) -> Divided
     }
 }
 
-// Add, Sub, Mul, Div, Mod or Gt of the two uppermost: "Top a, second b".
+// Add, Sub, Mul, Div, Mod or Gt of the two uppermost, a on top of b (rules 9.3 to 9.6).
 pub fn pair(stack: &mut [i64], depth: usize, op: Pairing) -> usize
     requires { ⌜ Lies (now stack) depth ⌝ }
     ensures { λ r. ⌜ Does (Instr.pair op) (now (stack .entry)) depth (now (stack .exit)) r ⌝ }
@@ -112,7 +112,7 @@ pub fn pair(stack: &mut [i64], depth: usize, op: Pairing) -> usize
     replace(stack, depth, v)
 }
 
-// Not: "0 to 1, all else to 0".
+// Not: a 0 becomes 1, all else 0 (rule 9.6).
 pub fn not(stack: &mut [i64], depth: usize) -> usize
     requires { ⌜ Lies (now stack) depth ⌝ }
     ensures { λ r. ⌜ Does Instr.not (now (stack .entry)) depth (now (stack .exit)) r ⌝ }
@@ -183,7 +183,8 @@ fn places(n: i64, d: usize) -> usize
     m
 }
 
-// Roll: "top a, depth n". Both are gone whatever n is; a is taken modulo n, so that -2^63 needs no case of its own.
+// Roll: a on top of the depth n. Both are gone whatever n is; a is taken modulo n, so that -2^63 needs no case of its own
+// (rule 9.8).
 pub fn roll(stack: &mut [i64], depth: usize) -> usize
     requires { ⌜ Lies (now stack) depth ⌝ }
     ensures { λ r. ⌜ Does Instr.roll (now (stack .entry)) depth (now (stack .exit)) r ⌝ }

@@ -1,4 +1,4 @@
--- An exit number says what it was made of, and the largest one is document 01's. Assumes nothing.
+-- An exit number says what it was made of, and the largest one is rule 7.3's. Assumes nothing.
 use mathlib.Core.Path.{_≡_, refl}
 use Prim.Native.Nat.{ℕ, _<_, _≤_}
 use native.Mathlib.Omega.{arith}

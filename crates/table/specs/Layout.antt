@@ -1,9 +1,9 @@
--- Where a region's row and exits stand (document 01, "Building writes"). Assumes nothing.
+-- Where a region's row and exits stand (rules 7.2, 7.3). Assumes nothing.
 use mathlib.Core.List.{List}
 use Prim.Native.Nat.{ℕ, _+_, _*_}
 use lib.ListN.{getD}
 
--- "region rows, five u32 (colour, size, first pixel row and column, 1 for a node else 0)"
+-- the five cells of a row, in their order (rule 7.2); the mark is 1 for a node, else 0
 abbrev pub colourField : ℕ
 colourField = 0
 
@@ -22,7 +22,7 @@ markField = 4
 abbrev pub rowCell : ℕ → ℕ → ℕ
 rowCell region field = region * 5 + field
 
--- "exits, eight u32 a region by state"
+-- a region's eight exits stand by state (rule 7.3)
 abbrev pub exitCell : ℕ → ℕ → ℕ
 exitCell region state = 8 * region + state
 

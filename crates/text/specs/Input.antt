@@ -1,4 +1,4 @@
--- What an input instruction takes of the input. Assumes nothing.
+-- What an input instruction takes of the input (rules 10.1 to 10.4). Assumes nothing.
 use Prim.Native.Nat.{ℕ}
 use mathlib.Core.Path.{_≡_}
 use mathlib.Core.List.{List, [], _∷_}
@@ -12,22 +12,22 @@ use Rattle.text.specs.declared.number.Number.the-variants.{Value, NotANu
 use Rattle.text.specs.declared.input.Taken.{Taken}
 use Rattle.text.specs.declared.input.Taken.the-variants.{Push, Skip, BadInput}
 
--- "CharIn pushes its first character"
+-- CharIn: the first character of a line (rule 10.2)
 unfoldable pub charOf : List ℕ → Number
 charOf [] = NotANumber
 charOf (c ∷ cs) = Value (pos c)
 
--- "IntIn trims and reads a sign or none and one or more ASCII digits in i64"
+-- IntIn: the number that a line is without the white space at its ends (rule 10.3)
 abbrev pub intOf : List ℕ → Number
 intOf cs = parsed (encodes (trimmed cs))
 
--- "a line either gives a number or the step is skipped": with the place after the line
+-- what a line gives is pushed, or the step is skipped (rule 10.4); with the place after the line
 unfoldable pub pushOrSkip : Number → ℕ → Taken
 pushOrSkip (Value v) n = Push v n
 pushOrSkip NotANumber n = Skip n
 
--- An instruction that reads f of a line "consumes a line, newline included where there is one"; "BadInput (the line it
--- would read is not UTF-8)". The number of that stop is `statusOf` of machine's specs/Machine.antt.
+-- An instruction that reads f of a line takes the whole line (rule 10.1); one that is not UTF-8 is BadInput (rule 11.6). The
+-- number of that stop is `statusOf` of machine's specs/Machine.antt.
 pub data Takes (f : List ℕ → Number) (s : List ℕ) (at : ℕ) (r : Taken) : Type 0 where
   reads : (cs : List ℕ) → Utf8 (lineAt s at) cs → r ≡ pushOrSkip (f cs) (lineEnd s at) → Takes f s at r
   bad : (Valid (lineAt s at) → ⊥) → r ≡ BadInput → Takes f s at r

@@ -1,4 +1,4 @@
--- "a line, newline included where there is one". Assumes nothing.
+-- The lines of the input (rule 10.1). Assumes nothing.
 use Prim.Native.Nat.{ℕ, _+_}
 use mathlib.Core.Bool.{cond}
 use mathlib.Core.List.{List, [], _∷_}

@@ -1,4 +1,4 @@
--- "a sign or none and one or more ASCII digits in i64". Assumes nothing.
+-- A number as IntIn reads it (rule 10.3). Assumes nothing.
 use Prim.Native.Nat.{ℕ, _-_, _^_}
 use mathlib.Core.Bool.{Bool, true, false, _&&_, cond}
 use mathlib.Core.List.{List, [], _∷_}
@@ -16,7 +16,7 @@ unfoldable pub digits : List ℕ → Bool
 digits [] = true
 digits (b ∷ bs) = within 0x30 0x39 b && digits bs
 
--- "one or more ASCII digits"
+-- digits, at least one
 unfoldable pub numeral : List ℕ → Bool
 numeral [] = false
 numeral (b ∷ bs) = digits (b ∷ bs)
@@ -30,14 +30,14 @@ unfoldable pub sign : (ℕ → ℤ) → Magnitude → Number
 sign f (Is n) = Value (f n)
 sign f Not = NotANumber
 
--- "in i64": from -2^63 to 2^63 - 1
+-- in range: from -2^63 to 2^63 - 1
 abbrev pub plus : List ℕ → Number
 plus bs = sign pos (magnitudeOf (2 ^ 63 - 1) bs)
 
 abbrev pub minus : List ℕ → Number
 minus bs = sign (λ n. negℤ (pos n)) (magnitudeOf (2 ^ 63) bs)
 
--- "a sign or none": 0x2D is `-`, 0x2B is `+`
+-- a sign may stand first: 0x2D is `-`, 0x2B is `+`
 unfoldable pub parsed : List ℕ → Number
 parsed [] = NotANumber
 parsed (b ∷ bs) = cond (eqb b 0x2D) (minus bs) (cond (eqb b 0x2B) (plus bs) (plus (b ∷ bs)))

@@ -1,5 +1,4 @@
--- "The trimmed line is a part of the lent input": the bytes of a line without the white space at its ends.
--- Assumes nothing.
+-- The bytes of a line without the white space at its ends (rule 10.3). Assumes nothing.
 use Prim.Native.Nat.{ℕ}
 use mathlib.Core.Path.{_≡_}
 use mathlib.Core.List.{List}

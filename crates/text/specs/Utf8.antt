@@ -1,4 +1,4 @@
--- UTF-8 over the code point: which numbers are characters, the bytes of one, and when bytes read as characters.
+-- UTF-8 over the code point (rule 10.6): which numbers are characters, the bytes of one, and when bytes read as characters.
 -- Assumes nothing.
 use Prim.Native.Nat.{ℕ, _+_, _/_, _%_, _<_, _≤_}
 use mathlib.Core.Path.{_≡_}
@@ -10,7 +10,7 @@ use Rattle.text.specs.Range.{within}
 use Rattle.text.specs.declared.utf8.Decoded.{Decoded}
 use Rattle.text.specs.declared.utf8.Decoded.the-variants.{Char, Bad, End}
 
--- "a Unicode scalar": below 0x110000, and no surrogate, U+D800 to U+DFFF
+-- a Unicode scalar: below 0x110000, and no surrogate, U+D800 to U+DFFF (rule 10.6)
 unfoldable pub scalar : ℕ → Bool
 scalar c = ltb c 0x110000 && not (within 0xD800 0xDFFF c)
 

@@ -5,7 +5,7 @@ use mathlib.Core.List.{List, [], _∷_, reverse}
 use lib.Dec.{eqb}
 use Rattle.text.specs.Range.{within}
 
--- "White space is U+0009 to U+000D, U+0020, U+0085, U+00A0, U+1680, U+2000 to U+200A, U+2028, U+2029, U+202F, U+205F, U+3000."
+-- the white space of rule 10.5
 unfoldable pub whiteSpace : ℕ → Bool
 whiteSpace c =
     within 0x9 0xD c || eqb c 0x20 || eqb c 0x85 || eqb c 0xA0 || eqb c 0x1680 || within 0x2000 0x200A c

@@ -1,4 +1,4 @@
-// What an input instruction takes: it "consumes a line, newline included where there is one".
+// What an input instruction takes: a line, with its newline (rule 10.1).
 use crate::number::Number;
 use crate::number::parse;
 use crate::utf8::Decoded;
@@ -30,7 +30,8 @@ pub fn line_end(input: &[u8], at: usize) -> usize
     i
 }
 
-// "IntIn trims and reads" the line as a number. "At the end of input both skip."
+// IntIn: the line as a number, without the white space at its ends (rule 10.3). At the end of the input the step is skipped
+// (rule 10.4).
 pub fn int_in(input: &[u8], at: usize) -> Taken
     ensures { λ r. ⌜ Takes intOf (now (input .entry)) at r ⌝ }
 {
@@ -49,7 +50,7 @@ pub fn int_in(input: &[u8], at: usize) -> Taken
     }
 }
 
-// "CharIn pushes its first character", which is the newline where the line has no other.
+// CharIn: the line's first character, which is the newline where it has no other (rule 10.2).
 pub fn char_in(input: &[u8], at: usize) -> Taken
     ensures { λ r. ⌜ Takes charOf (now (input .entry)) at r ⌝ }
 {

@@ -1,4 +1,4 @@
-// "a sign or none and one or more ASCII digits in i64".
+// Numbers as text: what IntIn reads (rule 10.3).
 use crate::utf8::wide;
 ghost use mathlib.Core.Path.{_≡_};
 ghost use Prim.Native.Nat.{_^_, _≤_};
@@ -10,7 +10,7 @@ enum Magnitude {
     Not,
 }
 
-// What a text reads as: "a line either gives a number or the step is skipped".
+// What a text reads as: a number, or nothing to push (rule 10.4).
 pub enum Number {
     Value(i64),
     NotANumber,

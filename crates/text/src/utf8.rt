@@ -1,4 +1,4 @@
-// UTF-8: which bytes are characters. "BadInput (the line it would read is not UTF-8)" and "a Unicode scalar" of CharOut rest on it.
+// UTF-8: which bytes are characters (rule 10.6). BadInput (rule 11.6) and CharOut's test of a scalar (rule 9.9) rest on it.
 ghost use mathlib.Core.Path.{_≡_};
 ghost use Prim.Native.Nat.{_<_};
 ghost use lib.ListN.{length, getD};
@@ -114,7 +114,7 @@ pub fn is_utf8(line: &[u8]) -> bool
     true
 }
 
-// "emits only a Unicode scalar": what CharOut asks of a number.
+// Whether a number is a Unicode scalar, as CharOut asks (rule 9.9).
 pub fn is_scalar(n: u32) -> bool
     ensures { λ r. ⌜ r ≡ scalar n ⌝ }
 {

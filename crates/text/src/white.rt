@@ -1,4 +1,4 @@
-// White space by the code point, "used on both ends of a line".
+// White space by the code point, and a line without it at its ends (rules 10.3, 10.5).
 use crate::utf8::Decoded;
 use crate::utf8::Tail;
 use crate::utf8::decode;
@@ -11,7 +11,7 @@ ghost use Rattle.text.specs.Ends.{Front, Back, LastStart};
 ghost use Rattle.text.specs.Trim.{Trims};
 ghost use Rattle.text.specs.White.{whiteSpace};
 
-// "White space is U+0009 to U+000D, U+0020, U+0085, U+00A0, U+1680, U+2000 to U+200A, U+2028, U+2029, U+202F, U+205F, U+3000."
+// The white space of rule 10.5.
 pub fn is_white(cp: u32) -> bool
     ensures { λ r. ⌜ r ≡ whiteSpace cp ⌝ }
 {
@@ -83,7 +83,7 @@ fn white_back(line: &[u8]) -> usize
     e
 }
 
-// "The trimmed line is a part of the lent input." A line that is not UTF-8 has no characters to trim, and stays whole.
+// The trimmed line, a part of the lent one. A line that is not UTF-8 has no characters to trim, and stays whole.
 pub fn trim(line: &[u8]) -> &[u8]
     ensures { λ r. ⌜ Trims (now (line .entry)) (now r) ⌝ }
 {

@@ -1,4 +1,4 @@
--- The machine's numbers: integers from -2^63 to 2^63 - 1 (document 01, "The run"). Assumes nothing.
+-- The machine's numbers: integers from -2^63 to 2^63 - 1 (rule 9). Assumes nothing.
 use Prim.Native.Nat.{ℕ, suc, _-_, _%_, _^_}
 use mathlib.Core.Bool.{Bool, false, cond, _||_}
 use mathlib.Core.List.{List, [], _∷_}
@@ -17,7 +17,7 @@ residue (negsuc n) m = m - suc (n % m)
 unfoldable pub signed64 : ℕ → ℤ
 signed64 u = cond (ltb u (2 ^ 63)) (pos u) (negsuc (2 ^ 64 - suc u))
 
--- "wrap as the release build does": the one number of -2^63 .. 2^63 - 1 that differs from z by a multiple of 2^64
+-- the one number of -2^63 .. 2^63 - 1 that differs from z by a multiple of 2^64 (rule 9.3)
 unfoldable pub wrap : ℤ → ℤ
 wrap z = signed64 (residue z (2 ^ 64))
 
@@ -25,11 +25,11 @@ unfoldable pub isZero : ℤ → Bool
 isZero (pos n) = eqb n 0
 isZero (negsuc n) = false
 
--- "Div rounds toward zero"; by 0 nothing comes; -2^63 Div -1 wraps to -2^63
+-- b over a, rounded toward zero; by 0 nothing comes; -2^63 Div -1 wraps to -2^63 (rule 9.4)
 unfoldable pub quotient : ℤ → ℤ → List ℤ
 quotient b a = cond (isZero a) [] (wrap (quotZ b a) ∷ [])
 
--- "Mod is never negative: b modulo |a|"; by 0 and by -2^63 nothing comes
+-- b modulo |a|, never negative; by 0 and by -2^63 nothing comes (rule 9.5)
 unfoldable pub remainder : ℤ → ℤ → List ℤ
 remainder b a = cond (eqb (natAbs a) 0 || eqb (natAbs a) (2 ^ 63)) [] (pos (residue b (natAbs a)) ∷ [])
 

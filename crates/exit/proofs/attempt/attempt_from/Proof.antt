@@ -17,7 +17,7 @@ start c = c .before .before .before .before
 abbrev pic : tie.Start → Picture
 pic c = pictureOf (now (c .args .colours)) (c .args .s)
 
--- the white boundary
+-- the white codel ahead
 white : (c : tie.After-r2) → let s = start c in let v = c .r2 .given .0 in lookOf (pic s) (s .args .row) (s .args .col) (s .args .from .dp) ≡ White (v .0) (v .1 .0)
 white c = sym (c .before .before .look .ensures) ∙ c .r2 .given .1
 

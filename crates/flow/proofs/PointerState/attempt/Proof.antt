@@ -1,4 +1,4 @@
--- `flow::PointerState::attempt` meets its contract: its form is the page's order, computed over all eight states.
+-- `flow::PointerState::attempt` meets its contract: its form is the order of rule 4.5, computed over all eight states.
 -- Assumes nothing.
 use borrow.Author.Needs.{needs}
 use Rattle.flow.proofs.Order.{attempted-is}
