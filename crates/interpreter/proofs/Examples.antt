@@ -1,4 +1,4 @@
--- The worked job of rule 13 on its table, and the order of the stops (rule 8.2), by computation. Assumes nothing.
+-- The worked job (rule 13.8) on its table, and the order of the stops (rule 8.2), by computation. Assumes nothing.
 use mathlib.Core.Path.{_≡_, refl}
 use mathlib.Core.Bool.{Bool, true, false}
 use mathlib.Core.List.{List, [], _∷_}

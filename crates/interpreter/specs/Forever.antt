@@ -17,7 +17,7 @@ closed exits region = every (λ s. eqb (exitAt exits region s) 0) 8
 abbrev pub onward : List ℕ → List ℕ → ℕ → Bool
 onward rows exits region = eqb (markOf rows region) 0 || not (closed exits region)
 
--- the answer in numbers (rule 12.2): 1 for yes, 0 for no
+-- the answer in numbers (rules 7.5, 12.6): 1 for yes, 0 for no
 unfoldable pub numbered : Forever → Numbers
 numbered Refused = numbers 10 (0 ∷ [])
 numbered Yes = numbers 0 (1 ∷ [])

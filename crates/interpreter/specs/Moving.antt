@@ -16,7 +16,7 @@ unfoldable pub nextOf : Slices → Moved → Went
 nextOf l (To at) = goes (machineOf l at)
 nextOf l (Halted s) = halts s
 
--- a step that can't be kept leaves everything as it was (rule 11)
+-- a step that can't be kept leaves everything as it was (rule 11.8)
 unfoldable pub After : ℕ → Slices → State → Slices → Moved → Type 0
 After n l at l′ (To at′) = Placed n l′ at′ × (at′ .steps ≡ at .steps + 1)
 After n l at l′ (Halted s) = l′ ≡ l

@@ -1,4 +1,4 @@
--- Where a run may be taken up again, and what `resume` makes of it. Assumes nothing.
+-- Where a run may be taken up again, and what `resume` makes of it (rule 8.8). Assumes nothing.
 use mathlib.Core.Path.{_≡_}
 use mathlib.Core.List.{List}
 use Prim.Native.Nat.{ℕ, _-_, _<_}

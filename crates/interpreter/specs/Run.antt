@@ -23,7 +23,7 @@ pub data Went : Type 0 where
   goes : Machine → Went
   halts : Stop → Went
 
--- where the instruction is kept: at the exit's target, one step more (rule 8.3); else the step is not taken (rule 11)
+-- where the instruction is kept: at the exit's target, one step more (rule 8.3); else the step is not taken (rule 11.8)
 unfoldable pub arrive : ℕ → Machine → Out → Went
 arrive w m (keeps s) = goes (record { region = targetOf w; steps = m .steps + 1; store = s })
 arrive w m (stops s) = halts s

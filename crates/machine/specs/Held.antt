@@ -52,7 +52,7 @@ unfoldable pub outOf : Slices → Done → Out
 outOf l (Kept at) = keeps (storeOf l at)
 outOf l (Stops s) = stops s
 
--- a step that can't be kept leaves everything as it was (rule 11)
+-- a step that can't be kept leaves everything as it was (rule 11.8)
 unfoldable pub After : Slices → Slices → Done → Type 0
 After l l′ (Kept at) = Stands l′ at
 After l l′ (Stops s) = l′ ≡ l

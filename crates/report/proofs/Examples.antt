@@ -5,7 +5,7 @@ use lib.IntN.{pos, negsuc}
 use Rattle.base.specs.Text.{ascii, digits, decimal}
 use Rattle.report.specs.Text.{newline, int, value, values, item, items, counted, line, placeLine, stackLine, outLine, resultText, refusalText}
 
--- the worked job of rule 13 prints these five lines
+-- the worked job (rule 13.8) prints these five lines
 pub example : resultText 2 3 (ascii "RegRed_0_1") 0 0 (pos 1 ∷ []) []
     ≡ ascii "status 2" ++ newline ++ ascii "steps 3" ++ newline ++ ascii "at RegRed_0_1 0 0" ++ newline ++ ascii "stack 1 1" ++ newline ++ ascii "out 0" ++ newline
 unfolding resultText counted line placeLine stackLine outLine digits decimal int value values items

@@ -1,4 +1,4 @@
--- The machine's numbers: integers from -2^63 to 2^63 - 1 (rule 9). Assumes nothing.
+-- The machine's numbers: integers from -2^63 to 2^63 - 1 (rule 9.10). Assumes nothing.
 use Prim.Native.Nat.{ℕ, suc, _-_, _%_, _^_}
 use mathlib.Core.Bool.{Bool, false, cond, _||_}
 use mathlib.Core.List.{List, [], _∷_}
