@@ -11,6 +11,7 @@
 //     build       every slice is longer than its room; the map shows the width
 //     forever     the rows are too short to be exits
 //     run         7 is read and written, a slide leads back, 300 is read: it lies on the stack, and 7 in the values
+//     run_picture as build and run; no slice would do for another that it could be taken for
 // Each is called once more with too short an answer, which changes nothing.
 use libc::STDOUT_FILENO;
 
@@ -60,12 +61,6 @@ fn exits() -> [u32; 32] {
     exits
 }
 
-fn print_returned(name: &[u8], number: u32) {
-    io::write_all(STDOUT_FILENO, name);
-    stored::print_cell(number);
-    io::write_all(STDOUT_FILENO, b"\n");
-}
-
 fn print_bytes(name: &[u8], bytes: &[u8]) {
     io::write_all(STDOUT_FILENO, name);
     let mut i = 0;
@@ -107,20 +102,38 @@ fn print_values(name: &[u8], values: &[i64]) {
     io::write_all(STDOUT_FILENO, b"\n");
 }
 
+fn print_returned(name: &[u8], number: u32, answer: &[u64]) {
+    io::write_all(STDOUT_FILENO, name);
+    stored::print_cell(number);
+    io::write_all(STDOUT_FILENO, b"\n");
+    print_numbers(b"  answer", answer);
+}
+
+fn print_table(map: &[u32], rows: &[u32], exits: &[u32], work: &[u32]) {
+    print_cells(b"  map", map);
+    print_cells(b"  rows", rows);
+    print_cells(b"  exits", exits);
+    print_cells(b"  work", work);
+}
+
+fn print_room(stack: &[i64], kinds: &[u8], values: &[i64]) {
+    print_values(b"  stack", stack);
+    print_bytes(b"  kinds", kinds);
+    print_values(b"  values", values);
+}
+
 fn classify(setting: u8, answer: &mut [u64]) {
     let mut colours = [80u8; 16];
     let pixels = pixels();
     let number = piet_c::piet_classify(&pixels, 3, 5, setting, &mut colours, answer);
-    print_returned(b"piet_classify", number);
-    print_numbers(b"  answer", answer);
+    print_returned(b"piet_classify", number, answer);
     print_bytes(b"  colours", &colours);
 }
 
 fn label(answer: &mut [u64]) {
     let mut out = [81u8; 24];
     let number = piet_c::piet_label(6, 3, 12, &mut out, answer);
-    print_returned(b"piet_label", number);
-    print_numbers(b"  answer", answer);
+    print_returned(b"piet_label", number, answer);
     print_bytes(b"  out", &out);
 }
 
@@ -140,19 +153,14 @@ fn build(answer: &mut [u64]) {
         &mut work,
         answer,
     );
-    print_returned(b"piet_build", number);
-    print_numbers(b"  answer", answer);
-    print_cells(b"  map", &map);
-    print_cells(b"  rows", &rows);
-    print_cells(b"  exits", &exits);
-    print_cells(b"  work", &work);
+    print_returned(b"piet_build", number, answer);
+    print_table(&map, &rows, &exits, &work);
 }
 
 fn forever(answer: &mut [u64]) {
     let exits = exits();
     let number = piet_c::piet_determine_runs_forever(4, &ROWS, &exits, answer);
-    print_returned(b"piet_determine_runs_forever", number);
-    print_numbers(b"  answer", answer);
+    print_returned(b"piet_determine_runs_forever", number, answer);
 }
 
 fn run(answer: &mut [u64]) {
@@ -172,11 +180,43 @@ fn run(answer: &mut [u64]) {
         &mut values,
         answer,
     );
-    print_returned(b"piet_run", number);
-    print_numbers(b"  answer", answer);
-    print_values(b"  stack", &stack);
-    print_bytes(b"  kinds", &kinds);
-    print_values(b"  values", &values);
+    print_returned(b"piet_run", number, answer);
+    print_room(&stack, &kinds, &values);
+}
+
+fn run_picture(answer: &mut [u64]) {
+    let pixels = pixels();
+    let mut colours = [80u8; 16];
+    let mut map = [82u32; 7];
+    let mut rows = [83u32; 31];
+    let mut exits = [84u32; 49];
+    let mut work = [85u32; 8];
+    let mut stack = [86i64; 5];
+    let mut kinds = [87u8; 3];
+    let mut values = [88i64; 4];
+    let number = piet_c::run_picture::piet_run_picture(
+        &pixels,
+        3,
+        5,
+        3,
+        2,
+        4,
+        false,
+        b"7\n300\n5\n",
+        &mut colours,
+        &mut map,
+        &mut rows,
+        &mut exits,
+        &mut work,
+        &mut stack,
+        &mut kinds,
+        &mut values,
+        answer,
+    );
+    print_returned(b"piet_run_picture", number, answer);
+    print_bytes(b"  colours", &colours);
+    print_table(&map, &rows, &exits, &work);
+    print_room(&stack, &kinds, &values);
 }
 
 fn main() {
@@ -185,7 +225,9 @@ fn main() {
     let mut two = [91u64; 2];
     let mut three = [92u64; 3];
     let mut seven = [93u64; 7];
-    let mut nine = [94u64; 9];
+    let mut eight = [94u64; 8];
+    let mut nine = [95u64; 9];
+    let mut ten = [96u64; 10];
     classify(1, &mut three);
     classify(3, &mut three);
     classify(3, &mut one);
@@ -197,4 +239,6 @@ fn main() {
     forever(&mut none);
     run(&mut nine);
     run(&mut seven);
+    run_picture(&mut ten);
+    run_picture(&mut eight);
 }
