@@ -6,12 +6,12 @@
 //     red    white         cyan
 // and its other pixels are black, but for (2,1), which has none of the twenty colours. No two slices of a call are filled
 // alike before it, and no two of one type are of one length.
-//     classify    the place of the unknown pixel tells height from width; setting 3 makes it black
-//     label       a row and a column of unlike digits
-//     build       every slice is longer than its room; the map shows the width
-//     forever     the rows are too short to be exits
-//     run         7 is read and written, a slide leads back, 300 is read: it lies on the stack, and 7 in the values
-//     run_picture as build and run; no slice would do for another that it could be taken for
+//     classify       the place of the unknown pixel tells height from width; setting 3 makes it black
+//     label          a row and a column of unlike digits
+//     build          every slice is longer than its room; the map shows the width
+//     forever        the rows are too short to be exits
+//     run            7 is read and written, a slide leads back, 300 is read: it lies on the stack, and 7 in the values
+//     run_picture    as classify, build and run together, with the same lent slices
 // Each is called once more with too short an answer, which changes nothing.
 use libc::STDOUT_FILENO;
 
