@@ -1,7 +1,7 @@
 -- Demand 3, for C: from what `piet_build` and `piet_run` promise, a run of what was built from a picture is not refused, and
 -- it follows the picture. Nothing of how either is met is used. Assumes nothing.
 use mathlib.Core.Path.{_≡_, sym, ap, _∙_}
-use mathlib.Core.List.{List, [], _∷_}
+use mathlib.Core.List.{List}
 use Prim.Native.Nat.{ℕ, _<_, _≤_}
 use native.Mathlib.Omega.{arith}
 use lib.ListN.{length, getD, take}
