@@ -6,6 +6,7 @@
  *   piet_run        table, input      -> status, stack and outputs
  *   piet_label      a region's colour and first pixel -> its name, as RegRed_0_1
  *   piet_determine_runs_forever       table -> whether every node has an exit
+ *   piet_run_picture                  pixels, input -> the whole run: the first three in one call
  *
  * Slices. Each slice is lent as two arguments, a pointer and the number of its elements. No pointer is null, also not
  * that of an empty slice. Slices of one call do not overlap where one of them is written. No call keeps what it was
@@ -14,10 +15,11 @@
  * What is returned. 0 for done, else a refusal (enum piet_refusal). Any argument may be wrong: no value of a number
  * or of a lent cell does more than a refusal.
  *
- * answer. The values of a call are written to the first cells of `answer`, as many as are named below; the cells after
- * them stay as they were. An `answer` with fewer cells than named returns PIET_REFUSED_ROOM before all other tests,
- * and nothing is written. On any other refusal the named cells become 0, but for the place where one is named, and
- * every other slice stays as it was.
+ * answer. What a call answers besides the number that it returns: its values are written to the first cells of
+ * `answer`, as many as are named below, and the cells after them stay as they were. An `answer` with fewer cells than
+ * named returns PIET_REFUSED_ROOM before all other tests, and nothing is written. On any other refusal the named cells
+ * become 0, but for the place where one is named. `answer` is the one slice that a refusal writes: every other slice
+ * stays as it was.
  */
 #ifndef PIET_H
 #define PIET_H
@@ -136,6 +138,7 @@ enum piet_size {
     PIET_LABEL_ANSWER = 1,
     PIET_FOREVER_ANSWER = 1,
     PIET_RUN_ANSWER = 8,
+    PIET_RUN_PICTURE_ANSWER = 9,
     PIET_ROW = 5,         /* cells of a region's row: colour, size, first pixel row, first pixel column, node mark */
     PIET_EXITS = 8,       /* exits of a region, by pointer state 2 x dp + cc */
     PIET_LABEL_ROOM = 22
@@ -239,6 +242,36 @@ uint32_t piet_run(size_t n,
                   uint8_t *kinds, size_t kinds_length,
                   int64_t *values, size_t values_length,
                   uint64_t *answer, size_t answer_length);
+
+/*
+ * The whole run of a picture: its colours as by piet_classify, its table as by piet_build, and the run over that table
+ * as by piet_run. With G = ceil(height / codel) x ceil(width / codel) codels:
+ *
+ *   pixels, setting              as for piet_classify
+ *   codel                        the codel width, as for piet_build
+ *   limit, abstract_mode, input  as for piet_run
+ *   colours                      room for height x width bytes, written as by piet_classify
+ *   map, rows, exits, work       room for G, 5 x G, 8 x G and G, written as by piet_build
+ *   stack, kinds, values         of any length, written as by piet_run
+ *   answer                       9 cells: the eight of piet_run, then the count of regions; with PIET_REFUSED_PIXEL,
+ *                                row and column of the first such pixel, then seven zeros
+ *
+ * Returns the first refusal that holds in the order SIZE, SETTING, BYTES, ROOM (of colours), PIXEL, and then CODEL,
+ * GRID, WHITE, ROOM (of map, rows, exits or work); or PIET_DONE.
+ */
+uint32_t piet_run_picture(const uint8_t *pixels, size_t pixels_length,
+                          size_t height, size_t width, uint8_t setting, size_t codel,
+                          uint64_t limit, bool abstract_mode,
+                          const uint8_t *input, size_t input_length,
+                          uint8_t *colours, size_t colours_length,
+                          uint32_t *map, size_t map_length,
+                          uint32_t *rows, size_t rows_length,
+                          uint32_t *exits, size_t exits_length,
+                          uint32_t *work, size_t work_length,
+                          int64_t *stack, size_t stack_length,
+                          uint8_t *kinds, size_t kinds_length,
+                          int64_t *values, size_t values_length,
+                          uint64_t *answer, size_t answer_length);
 
 #ifdef __cplusplus
 }

@@ -38,7 +38,7 @@ record Finish (a : Asked) (l l′ : Lends) (x : Ended) : Type 0 where
   pub none : running.refusalOf a l ≡ numbers 0 (0 ∷ 0 ∷ [])
   pub runs : RanPicture a l l′ end
 
-finish : {a : Asked} {l l′ : Lends} {x : Ended} (r : Pictured) → r ≡ Finished x → running.Outcome a l r l′ → Finish a l l′ x
+finish : {a : Asked} {l l′ : Lends} {x : Ended} {n : ℕ} (r : Pictured) → r ≡ Finished x n → running.Outcome a l r l′ → Finish a l l′ x
 finish r z (running.refused k v h q) = absurd (refusing.refused k v _ (sym q ∙ ap running.numbered z))
 finish r z (running.done {e} none R) = record { end = e; is = cc; none = none; runs = R }
 
@@ -55,7 +55,7 @@ module _ {job : List ℕ} (c : Content) (j : IsJob job c) {l l′ : Lends} (s : 
       let (k, v, e, h) = refusal-is _ refl o in
       prints (rw e (refused c j k v (sym (same-refusal c s) ∙ h))) p
 
-  module _ (s′ : Sized l′) {x : Ended} (o : running.Outcome (askedOf c) l (Finished x) l′) where
+  module _ (s′ : Sized l′) {x : Ended} {n : ℕ} (o : running.Outcome (askedOf c) l (Finished x n) l′) where
     f : Finish (askedOf c) l l′ x
     f = finish _ refl o
 

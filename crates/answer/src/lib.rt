@@ -152,7 +152,7 @@ fn run_job(job: &[u8], out: &mut [u8], p: Parts) -> usize
         &mut values,
     );
     match pictured {
-        Pictured::Finished(e) => put_ended(out, e, &rows, &stack, &kinds, &values),
+        Pictured::Finished { ended, .. } => put_ended(out, ended, &rows, &stack, &kinds, &values),
         Pictured::Refused { number, .. } => put_refusal(out, number as u64),
     }
 }

@@ -66,4 +66,4 @@ pub drawn : (a : Asked) (l l′ : Lends) {r : Pictured} → refusalOf a l ≡ nu
 drawn a l l′ {r} none colours D =
     let F = picture-follows (D .built) (a .given) (l .run) (D .ran .outcome) in
     let R : RanPicture a l l′ (F .0) = record { colours = colours; regions = D .regions; table = written (D .built); follows = F .2; inside = F .3; run = F .4 } in
-    subst (λ (x : Pictured). Outcome a l x l′) (sym (D .ran .is ∙ ap picturedOf (F .1))) (done none R)
+    subst (λ (x : Pictured). Outcome a l x l′) (sym (D .ran .is ∙ ap (picturedOf (D .regions)) (F .1))) (done none R)

@@ -2,7 +2,7 @@
 --     run-picture-only       two outcomes that it allows for one input are one
 --     run-picture-refusal    it is refused exactly as the table of refusals says, and then nothing changes
 -- Assumes nothing.
-use mathlib.Core.Path.{_≡_, refl, sym, ap, _∙_}
+use mathlib.Core.Path.{_≡_, refl, sym, ap, ap₂, _∙_}
 use mathlib.Core.List.{List, [], _∷_}
 use Prim.Native.Nat.{ℕ, suc}
 use native.Mathlib.Omega.{arith}
@@ -26,7 +26,7 @@ refusedAs (numbers n v) = Refused n (getD v 0 0) (getD v 1 0)
 
 named : (r : Pictured) (k : ℕ) (v : List ℕ) → numbered r ≡ numbers (suc k) v → r ≡ refusedAs (numbers (suc k) v)
 named (Refused n y x) k v h = ap refusedAs h
-named (Finished e) k v h = absurd (refusing.refused k v _ (sym h))
+named (Finished e n) k v h = absurd (refusing.refused k v _ (sym h))
 
 same-lends : {l l′ : Lends} → l .colours ≡ l′ .colours → l .map ≡ l′ .map → l .rows ≡ l′ .rows → l .exits ≡ l′ .exits → l .work ≡ l′ .work
     → l .run ≡ l′ .run → l ≡ l′
@@ -42,8 +42,10 @@ run-picture-only {a} {l} (done {e = end} e R) (done {e = end′} e′ R′) =
     let T = table.outcome-only (building.done (A .builds) (R .table)) (building.done (A .builds) (R′ .table)) in
     let B = R .table .builds in
     let B′ = R′ .table .builds in
-    let z : end ≡ end′ = picture-only (S .sound) (B .map-long) (B′ .map-long) (B .regions) (B′ .regions) (a .given) (roomOf (l .run)) (R .follows) (R′ .follows) in (
-      ap (λ (x : End). Finished (endedOf x)) z,
+    let z : end ≡ end′ = picture-only (S .sound) (B .map-long) (B′ .map-long) (B .regions) (B′ .regions) (a .given) (roomOf (l .run)) (R .follows) (R′ .follows) in
+    let same = T .answer in
+    let n : R .regions ≡ R′ .regions = cc in (
+      ap₂ (λ (x : End) (k : ℕ). Finished (endedOf x) k) z n,
       same-lends (R .colours ∙ sym (R′ .colours)) (T .map-same) (T .rows-same) (T .exits-same) (T .work-same)
           (R .run ∙ ap (λ (x : End). slicesOf (l .run) (x .at .store)) z ∙ sym (R′ .run)),
     )
@@ -54,7 +56,7 @@ pub record Refusal (a : Asked) (l : Lends) (r : Pictured) (l′ : Lends) : Type 
   pub number : numberOf (numbered r) ≡ numberOf (refusalOf a l)
   pub place : (numberOf (refusalOf a l) ≡ 0 → ⊥) → numbered r ≡ refusalOf a l
   pub unchanged : (numberOf (refusalOf a l) ≡ 0 → ⊥) → l′ ≡ l
-  pub runs : numberOf (refusalOf a l) ≡ 0 → (e : End) × (r ≡ Finished (endedOf e)) × RanPicture a l l′ e
+  pub runs : numberOf (refusalOf a l) ≡ 0 → (e : End) × (R : RanPicture a l l′ e) × (r ≡ Finished (endedOf e) (R .regions))
 
 pub run-picture-refusal : {a : Asked} {l l′ : Lends} {r : Pictured} → Outcome a l r l′ → Refusal a l r l′
 run-picture-refusal {a} {l} (refused k v e n) = record {
@@ -70,5 +72,5 @@ run-picture-refusal {a} {l} (done {e = end} e R) = record {
   number = sym (ap numberOf e);
   place = λ some. absurd (some (ap numberOf e));
   unchanged = λ some. absurd (some (ap numberOf e));
-  runs = λ _. (end, refl, R);
+  runs = λ _. (end, R, refl);
 }

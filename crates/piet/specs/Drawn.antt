@@ -14,15 +14,15 @@ use Rattle.piet.specs.declared.run_picture.Pictured.{Pictured}
 use Rattle.piet.specs.declared.run_picture.Pictured.the-variants.{Finished, Refused}
 use Rattle.piet.specs.RunPicture.{Lends}
 
--- the answer of a run as that of a picture: a refusal has its number and no place
-abbrev pub picturedOf : Ran → Pictured
-picturedOf (Ran.Finished e) = Finished e
-picturedOf (Ran.Refused number) = Refused number 0 0
+-- the answer of a run over n regions as that of a picture: a refusal has its number and no place
+abbrev pub picturedOf : ℕ → Ran → Pictured
+picturedOf n (Ran.Finished e) = Finished e n
+picturedOf n (Ran.Refused number) = Refused number 0 0
 
 -- what the run of a table answers and leaves
 pub record RanTable (n : ℕ) (rows exits : List ℕ) (g : Given) (l : Slices) (r : Pictured) (l′ : Slices) : Type 0 where
   pub answer : Ran
-  pub is : r ≡ picturedOf answer
+  pub is : r ≡ picturedOf n answer
   pub outcome : running.Outcome n rows exits g l answer l′
 
 pub record Draws (height width codel : ℕ) (g : Given) (l : Lends) (r : Pictured) (l′ : Lends) : Type 0 where

@@ -54,10 +54,10 @@ refusal a colours map rows exits work = first (refusals a colours map rows exits
 abbrev pub refusalOf : Asked → Lends → Numbers
 refusalOf a l = refusal a (length (l .colours)) (length (l .map)) (length (l .rows)) (length (l .exits)) (length (l .work))
 
--- document 01's number, with the place of an unknown pixel, or with the run's result
+-- the refusal's number, with the place of an unknown pixel; or 0, with the run's result and then the count of regions
 abbrev pub numbered : Pictured → Numbers
 numbered (Refused number row column) = numbers number (row ∷ column ∷ [])
-numbered (Finished e) = numbers 0 (resultOf e)
+numbered (Finished e regions) = numbers 0 (resultOf e ++ (regions ∷ []))
 
 -- what a call leaves that is not refused, where the run ends in e. Demand 3 is `follows`: the run is that of the picture,
 -- its regions numbered in the map by their first codels.
@@ -69,10 +69,11 @@ pub record RanPicture (a : Asked) (l l′ : Lends) (e : End) : Type 0 where
   pub inside : e .at .region < regions
   pub run : l′ .run ≡ slicesOf (l .run) (e .at .store)
 
--- what a call answers and leaves: refused, with all that is lent as it was; or the end of the run
+-- what a call answers and leaves: refused, with all that is lent as it was; or the end of the run, with the count of regions
 pub data Outcome (a : Asked) (l : Lends) : Pictured → Lends → Type 0 where
   refused : {r : Pictured} (k : ℕ) (v : List ℕ) → refusalOf a l ≡ numbers (suc k) v → numbered r ≡ numbers (suc k) v → Outcome a l r l
-  done : {e : End} {l′ : Lends} → refusalOf a l ≡ numbers 0 (0 ∷ 0 ∷ []) → RanPicture a l l′ e → Outcome a l (Finished (endedOf e)) l′
+  done : {e : End} {l′ : Lends} → refusalOf a l ≡ numbers 0 (0 ∷ 0 ∷ []) → (R : RanPicture a l l′ e)
+      → Outcome a l (Finished (endedOf e) (R .regions)) l′
 
 -- the arguments of a call, in their order
 abbrev pub asked : List ℕ → ℕ → ℕ → ℕ → ℕ → Given → Asked

@@ -27,9 +27,13 @@ use interpreter::Ended;
 use interpreter::Ran;
 use machine::Terms;
 
-// What a call answers: where the run stopped, or a refusal with the place of an unknown pixel.
+// What a call answers: where the run stopped and how many regions the picture has, or a refusal with the place of an
+// unknown pixel.
 pub enum Pictured {
-    Finished(Ended),
+    Finished {
+        ended: Ended,
+        regions: usize,
+    },
     Refused {
         number: u32,
         row: usize,
@@ -114,7 +118,7 @@ fn check(
     ))
 }
 
-// The run of a table, with its answer as that of a picture.
+// The run of a table of n regions, with its answer as that of a picture.
 fn run_table(
     n: usize,
     rows: &[u32],
@@ -128,7 +132,7 @@ fn run_table(
     ensures { λ r. ⌜ RanTable n (now (rows .entry)) (now (exits .entry)) (given terms (now (input .entry))) (slices (now (stack .entry)) (now (kinds .entry)) (now (values .entry))) r (slices (now (stack .exit)) (now (kinds .exit)) (now (values .exit))) ⌝ }
 {
     match interpreter::run(n, rows, exits, terms, input, stack, kinds, values) {
-        Ran::Finished(e) => Pictured::Finished(e),
+        Ran::Finished(ended) => Pictured::Finished { ended, regions: n },
         Ran::Refused(number) => Pictured::Refused {
             number,
             row: 0,

@@ -10,13 +10,17 @@ use Rattle.machine.specs.Held.{Slices}
 use Rattle.interpreter.specs.Outcome as running
 use Rattle.interpreter.proofs.Only.{run-only}
 use Rattle.piet_c.specs.Exported.{Exported, short, made}
-use Rattle.piet_c.specs.Calls.{ClassifyCall, LabelCall, BuildCall, TableRoom, RunCall, ForeverCall}
+use Rattle.piet_c.specs.Calls.{ClassifyCall, LabelCall, BuildCall, TableRoom, RunCall, ForeverCall, nine, PictureCall}
 use Rattle.picture.specs.Picture.{Picture}
 use Rattle.colour.proofs.Only.{classify-only, label-only}
 use Rattle.colour.specs.Classify as classifying
 use Rattle.colour.specs.Label as labelling
 use Rattle.cfg.specs.Build as building
 use Rattle.cfg.proofs.Refusing.{outcome-only}
+use Rattle.piet.specs.declared.run_picture.Pictured.{Pictured}
+use Rattle.piet.specs.RunPicture as picturing
+use Rattle.piet.specs.RunPicture.{Asked, Lends}
+use Rattle.piet.proofs.Only.{run-picture-only}
 
 -- what a call makes is determined
 abbrev pub Settles : {S : Type 0} → (Numbers → S → Type 0) → Type 0
@@ -60,3 +64,8 @@ runs k rows exits g l n n′ s s′ (r, e, o) (r′, e′, o′) =
 
 pub tells : (k : ℕ) (rows exits : List ℕ) → Settles (ForeverCall k rows exits)
 tells k rows exits n n′ s s′ (r, e, o) (r′, e′, o′) = (sym e ∙ o ∙ sym o′ ∙ e′, refl)
+
+pub pictures : (a : Asked) (l : Lends) → Settles (PictureCall a l)
+pictures a l n n′ s s′ (r, e, o) (r′, e′, o′) =
+    let d = run-picture-only o o′ in
+    (sym e ∙ ap (λ (x : Pictured). nine (picturing.numbered x)) (d .0) ∙ e′, d .1)

@@ -1,8 +1,9 @@
--- What each call makes: the layers' own outcomes, by document 01's numbers. Assumes nothing.
+-- What each call makes: the layers' own outcomes, by their numbers. Assumes nothing.
 use mathlib.Core.Path.{_≡_}
-use mathlib.Core.List.{List}
-use Prim.Native.Nat.{ℕ}
-use Rattle.base.specs.Numbers.{Numbers}
+use mathlib.Core.List.{List, _++_}
+use Prim.Native.Nat.{ℕ, _-_}
+use lib.ListN.{length, replicate}
+use Rattle.base.specs.Numbers.{Numbers, numbers}
 use Rattle.picture.specs.Picture.{Picture}
 use Rattle.colour.specs.declared.classify.Classified.{Classified}
 use Rattle.colour.specs.Classify as classifying
@@ -16,6 +17,9 @@ use Rattle.interpreter.specs.declared.Ran.{Ran}
 use Rattle.interpreter.specs.declared.Forever.{Forever}
 use Rattle.interpreter.specs.Outcome as running
 use Rattle.interpreter.specs.Forever as always
+use Rattle.piet.specs.declared.run_picture.Pictured.{Pictured}
+use Rattle.piet.specs.RunPicture as picturing
+use Rattle.piet.specs.RunPicture.{Asked, Lends}
 
 abbrev pub ClassifyCall : List ℕ → ℕ → ℕ → ℕ → List ℕ → Numbers → List ℕ → Type 0
 ClassifyCall pixels height width setting colours n colours′ =
@@ -45,3 +49,11 @@ RunCall n rows exits g l k l′ = (r : Ran) × (running.numbered r ≡ k) × run
 -- nothing is lent besides the answer
 abbrev pub ForeverCall : ℕ → List ℕ → List ℕ → Numbers → Unit {0} → Type 0
 ForeverCall n rows exits k u = (r : Forever) × (always.numbered r ≡ k) × (always.numbered r ≡ always.answer n rows exits)
+
+-- the values of an answer, and zeros after them up to nine cells
+abbrev pub nine : Numbers → Numbers
+nine (numbers n values) = numbers n (values ++ replicate (9 - length values) 0)
+
+-- nine values: the run's eight and the count of regions; or the place of an unknown pixel and zeros
+abbrev pub PictureCall : Asked → Lends → Numbers → Lends → Type 0
+PictureCall a l n l′ = (r : Pictured) × (nine (picturing.numbered r) ≡ n) × picturing.Outcome a l r l′

@@ -1,5 +1,7 @@
-// The entry points for C and Rust: a slice is a pointer and a length, an answer is document 01's number, and its values
-// are written into `answer`.
+// The entry points for C and Rust: a slice is a pointer and a length; 0 or a refusal's number is returned, and the values
+// that go with it are written into `answer`.
+pub mod run_picture;
+
 ghost use mathlib.Core.Path.{_≡_};
 ghost use mathlib.Core.List.{_∷_, []};
 ghost use Prim.Native.Nat.{_≤_};
@@ -209,21 +211,28 @@ fn of_ended(e: Ended) -> Eight
     }
 }
 
+// A refusal has zeros for values.
+fn of_refused(number: u32) -> Eight
+    ensures { λ t. ⌜ numbers (t .number) (t .status ∷ t .steps ∷ t .region ∷ t .dp ∷ t .cc ∷ t .depth ∷ t .outputs ∷ t .used ∷ []) ≡ running.refused number ⌝ }
+{
+    Eight {
+        number,
+        status: 0,
+        steps: 0,
+        region: 0,
+        dp: 0,
+        cc: 0,
+        depth: 0,
+        outputs: 0,
+        used: 0,
+    }
+}
+
 fn of_ran(r: Ran) -> Eight
     ensures { λ t. ⌜ numbers (t .number) (t .status ∷ t .steps ∷ t .region ∷ t .dp ∷ t .cc ∷ t .depth ∷ t .outputs ∷ t .used ∷ []) ≡ running.numbered r ⌝ }
 {
     match r {
-        Ran::Refused(number) => Eight {
-            number,
-            status: 0,
-            steps: 0,
-            region: 0,
-            dp: 0,
-            cc: 0,
-            depth: 0,
-            outputs: 0,
-            used: 0,
-        },
+        Ran::Refused(number) => of_refused(number),
         Ran::Finished(e) => of_ended(e),
     }
 }

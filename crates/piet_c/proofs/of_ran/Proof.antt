@@ -7,6 +7,9 @@ use Rattle.piet_c.proofs.of_ran.Tie as tie
 enum-known-r : tie.Need-enum-known-r
 enum-known-r c = search needs
 
+of-refused-requires : tie.Need-of-refused-requires
+of-refused-requires c κs = search needs
+
 enum-known-r-2 : tie.Need-enum-known-r-2
 enum-known-r-2 c = search needs
 
@@ -15,7 +18,9 @@ of-ended-requires c κs = search needs
 
 returns : tie.Need-returns
 unfolding running.numbered
-returns c = rw (c .before .r .given .1)
+returns c =
+    let the-r = c .before .before .r in
+    rw (the-r .given .1) (c .of-refused .ensures)
 
 returns-2 : tie.Need-returns-2
 unfolding running.numbered
@@ -24,4 +29,4 @@ returns-2 c =
     rw (the-r .given .1) (c .of-ended .ensures)
 
 pub of-ran-spec : {M : Type 1} → statement M
-of-ran-spec = tie.close (tie.spec enum-known-r enum-known-r-2 of-ended-requires returns returns-2)
+of-ran-spec = tie.close (tie.spec enum-known-r of-refused-requires enum-known-r-2 of-ended-requires returns returns-2)

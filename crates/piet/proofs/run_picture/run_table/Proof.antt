@@ -8,8 +8,8 @@ use Rattle.piet.proofs.run_picture.run_table.Tie as tie
 run-requires : tie.Need-run-requires
 run-requires c κs = search needs
 
-enum-known-e : tie.Need-enum-known-e
-enum-known-e c = search needs
+enum-known-ended : tie.Need-enum-known-ended
+enum-known-ended c = search needs
 
 enum-known-number : tie.Need-enum-known-number
 enum-known-number c = search needs
@@ -26,7 +26,7 @@ same-length-3 c = search needs
 returns : tie.Need-returns
 returns c =
     let the-run = c .before .before .before .before .before .before .before .run in
-    record { answer = the-run .result; is = rw (c .before .e .given .1) refl; outcome = the-run .ensures .0 }
+    record { answer = the-run .result; is = rw (c .before .ended .given .1) refl; outcome = the-run .ensures .0 }
 
 same-length-4 : tie.Need-same-length-4
 same-length-4 c = search needs
@@ -47,7 +47,7 @@ run-table-spec =
     tie.close
     (tie.spec
     run-requires
-    enum-known-e
+    enum-known-ended
     enum-known-number
     same-length
     same-length-2

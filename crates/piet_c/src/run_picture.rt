@@ -1,0 +1,93 @@
+// The call from pixels to a run's result.
+ghost use mathlib.Core.Path.{_≡_};
+ghost use Prim.Native.Nat.{_≤_};
+ghost use lib.ListN.{length};
+ghost use Rattle.base.specs.Lent.{lent};
+ghost use Rattle.base.specs.Numbers.{numberOf, valuesOf};
+ghost use Rattle.machine.specs.Machine.{given};
+ghost use Rattle.piet.specs.RunPicture.{asked, lends, numbered};
+ghost use Rattle.piet_c.specs.Exported.{Exported};
+ghost use Rattle.piet_c.specs.Calls.{nine, PictureCall};
+use crate::of_ended;
+use crate::of_refused;
+use crate::put_eight;
+use crate::put_two;
+use machine::Terms;
+use piet::run_picture::Pictured;
+use piet::run_picture::run_picture;
+
+// Writes the values of a picture's run, and gives the number: the run's eight and the count of regions, or the place of
+// an unknown pixel and zeros.
+fn put_pictured(answer: &mut [u64], r: Pictured) -> u32
+    requires { ⌜ 9 ≤ length (now answer) ⌝ }
+    ensures { λ n. ⌜ (n ≡ numberOf (nine (numbered r))) × (now (answer .exit) ≡ lent (valuesOf (nine (numbered r))) (now (answer .entry))) ⌝ }
+{
+    match r {
+        Pictured::Finished { ended, regions } => {
+            put_eight(answer, of_ended(ended));
+            answer[8] = regions as u64;
+            0
+        }
+        Pictured::Refused {
+            number,
+            row,
+            column,
+        } => {
+            put_eight(answer, of_refused(number));
+            put_two(answer, row as u64, column as u64);
+            answer[8] = 0;
+            number
+        }
+    }
+}
+
+// A run of a picture; answer: status, steps, region, dp, cc, depth, outputs, used, the count of regions; or row, column
+// of the first pixel that is not in the table.
+#[no_mangle]
+pub extern "C" fn piet_run_picture(
+    pixels: &[u8],
+    height: usize,
+    width: usize,
+    setting: u8,
+    codel: usize,
+    limit: u64,
+    abstract_mode: bool,
+    input: &[u8],
+    colours: &mut [u8],
+    map: &mut [u32],
+    rows: &mut [u32],
+    exits: &mut [u32],
+    work: &mut [u32],
+    stack: &mut [i64],
+    kinds: &mut [u8],
+    values: &mut [i64],
+    answer: &mut [u64],
+) -> u32
+    ensures { λ r. ⌜ Exported 9 (PictureCall (asked (now (pixels .entry)) height width setting codel (given (record { limit = limit; «abstract_mode» = «abstract_mode» }) (now (input .entry)))) (lends (now (colours .entry)) (now (map .entry)) (now (rows .entry)) (now (exits .entry)) (now (work .entry)) (now (stack .entry)) (now (kinds .entry)) (now (values .entry)))) (lends (now (colours .entry)) (now (map .entry)) (now (rows .entry)) (now (exits .entry)) (now (work .entry)) (now (stack .entry)) (now (kinds .entry)) (now (values .entry))) (now (answer .entry)) r (lends (now (colours .exit)) (now (map .exit)) (now (rows .exit)) (now (exits .exit)) (now (work .exit)) (now (stack .exit)) (now (kinds .exit)) (now (values .exit))) (now (answer .exit)) ⌝ }
+{
+    if answer.len() < 9 {
+        return 4;
+    }
+    let terms = Terms {
+        limit,
+        abstract_mode,
+    };
+    let ran = run_picture(
+        pixels,
+        height,
+        width,
+        setting,
+        codel,
+        terms,
+        input,
+        colours,
+        map,
+        rows,
+        exits,
+        work,
+        stack,
+        kinds,
+        values,
+    );
+    put_pictured(answer, ran)
+}
