@@ -1,0 +1,11 @@
+//! The library through the safe calls.
+mod by_chance;
+mod classifying;
+mod errors;
+mod exits;
+mod labels;
+mod numbers;
+mod pictures;
+mod support;
+mod tables;
+mod worked;
