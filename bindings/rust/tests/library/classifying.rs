@@ -25,8 +25,10 @@ fn refused_in_order() {
 #[test]
 fn unknown_pixels_by_setting() {
     let place = Err(Refusal::Pixel { row: 0, column: 0 });
-    let expected = [place, place, Ok(Colour::White.number()), Ok(Colour::Black.number())];
-    assert_eq!(Unknown::ALL.map(|unknown| classified(UNKNOWN, unknown)), expected);
+    assert_eq!(classified(UNKNOWN, Unknown::Default), place);
+    assert_eq!(classified(UNKNOWN, Unknown::Refused), place);
+    assert_eq!(classified(UNKNOWN, Unknown::White), Ok(Colour::White.number()));
+    assert_eq!(classified(UNKNOWN, Unknown::Black), Ok(Colour::Black.number()));
 }
 
 #[test]

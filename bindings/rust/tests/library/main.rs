@@ -6,6 +6,7 @@ mod exits;
 mod labels;
 mod numbers;
 mod pictures;
+mod shapes;
 mod support;
 mod tables;
 mod worked;
