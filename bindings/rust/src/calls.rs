@@ -76,7 +76,7 @@ pub fn run(table: Table, terms: Terms, room: RunRoom) -> Result<Ended, Refusal> 
 pub fn run_picture(picture: Picture, terms: Terms, room: PictureRoom) -> Result<Pictured, Refusal> {
     let mut answer = [0; 9];
     let Picture { pixels, shape, unknown } = picture;
-    let number = raw::run_picture(pixels, shape, unknown.number(), terms, room, &mut answer);
+    let number = raw::run_picture((pixels, shape, unknown.number()), terms, room, &mut answer);
     let [status, steps, region, dp, cc, depth, outputs, used, regions] = answer;
     Refusal::unless_done(number, [status, steps])?;
     let ended = Ended::of([status, steps, region, dp, cc, depth, outputs, used]);

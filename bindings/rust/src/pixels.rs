@@ -69,7 +69,7 @@ impl Owned {
 ///
 /// # Errors
 ///
-/// What [`run_picture`] refuses, and Memory.
+/// Memory, which is asked for first, and what [`run_picture`] refuses.
 pub fn run_pixels(picture: Picture, terms: Terms, cells: Cells) -> Result<Told, Error> {
     let mut owned = Owned::of(picture.shape, cells)?;
     let pictured = run_picture(picture, terms, owned.lent())?;

@@ -193,14 +193,11 @@ pub fn run(table: Table, terms: Terms, room: RunRoom, answer: &mut [u64; 8]) -> 
     }
 }
 
-pub fn run_picture(
-    pixels: &[u8],
-    shape: Shape,
-    setting: u8,
-    terms: Terms,
-    room: PictureRoom,
-    answer: &mut [u64; 9],
-) -> u32 {
+/// Pixels, their shape, and the setting for unknown ones by its number.
+pub type Painted<'a> = (&'a [u8], Shape, u8);
+
+pub fn run_picture(picture: Painted, terms: Terms, room: PictureRoom, answer: &mut [u64; 9]) -> u32 {
+    let (pixels, shape, setting) = picture;
     let PictureRoom { colours, table, run } = room;
     // SAFETY: each pointer comes with the length of its slice
     unsafe {

@@ -26,7 +26,7 @@ fn settings_above_3_for_a_picture() {
         let run = RunRoom { stack: &mut stack, kinds: &mut kinds, values: &mut values };
         let room = PictureRoom { colours: &mut colours, table, run };
         let (terms, mut answer) = (Terms { limit: 1, abstract_mode: false, input: b"" }, [7; 9]);
-        let number = run_picture(&RED, shape, setting, terms, room, &mut answer);
+        let number = run_picture((&RED, shape, setting), terms, room, &mut answer);
         assert_eq!(answer, [0; 9]);
         number
     };
