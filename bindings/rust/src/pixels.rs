@@ -1,85 +1,98 @@
 //! From pixels to a run's end in one call, with the room allocated.
+use crate::error::{allocated, reserved};
+use crate::numbers::proved;
 use crate::{
-    build, classify, label, run, Ended, Lent, Refusal, Room, Shape, Table, Terms, EXITS, LABEL, ROW,
+    run_picture, Ended, Error, Output, Picture, PictureRoom, RunRoom, Shape, Table, TableRoom, Terms, EXITS,
+    ROW,
 };
 use std::fmt;
 
-/// An unknown pixel is refused, as by the run program.
-const UNKNOWN_REFUSED: u8 = 1;
-
 /// How many stack cells and outputs a run may use.
-#[derive(Clone, Copy, Debug)]
+#[derive(Clone, Copy, Debug, PartialEq, Eq, Hash)]
 pub struct Cells {
+    /// The stack's room.
     pub stack: usize,
+    /// The outputs' room.
     pub outputs: usize,
 }
 
-#[derive(Clone, Copy, Debug, PartialEq, Eq)]
-pub enum Output {
-    Char(char),
-    Int(i64),
-}
-
 /// What a run gave. It is displayed as the run program prints it.
-#[derive(Clone, Debug, PartialEq, Eq)]
+#[derive(Clone, Debug, PartialEq, Eq, Hash)]
 pub struct Told {
+    /// Where the run stopped.
     pub ended: Ended,
+    /// The count of the picture's regions.
+    pub regions: usize,
+    /// The label of the region that the run stands in.
     pub label: String,
-    /// The top is last.
+    /// The stack; the top is last.
     pub stack: Vec<i64>,
+    /// The outputs in order.
     pub outputs: Vec<Output>,
 }
 
-/// Classifies, builds and runs a picture of three bytes a pixel.
-pub fn run_pixels(pixels: &[u8], shape: Shape, terms: Terms, cells: Cells) -> Result<Told, Refusal> {
-    let mut colours = vec![0; pixels.len() / 3];
-    classify(pixels, (shape.height, shape.width), UNKNOWN_REFUSED, &mut colours)?;
-    let codels = shape.codels();
-    let (mut map, mut work) = (vec![0; codels], vec![0; codels]);
-    let (mut rows, mut exits) = (vec![0; ROW * codels], vec![0; EXITS * codels]);
-    let lent = Lent { map: &mut map, rows: &mut rows, exits: &mut exits, work: &mut work };
-    let regions = build(&colours, shape, lent)?;
-    run_table(Table { regions, rows: &rows, exits: &exits }, terms, cells)
+/// The room of a picture's run, owned.
+struct Owned {
+    colours: Vec<u8>,
+    map: Vec<u32>,
+    rows: Vec<u32>,
+    exits: Vec<u32>,
+    work: Vec<u32>,
+    stack: Vec<i64>,
+    kinds: Vec<u8>,
+    values: Vec<i64>,
 }
 
-fn run_table(table: Table, terms: Terms, cells: Cells) -> Result<Told, Refusal> {
-    let mut stack = vec![0; cells.stack];
-    let (mut kinds, mut values) = (vec![0; cells.outputs], vec![0; cells.outputs]);
-    let ended = run(table, terms, Room { stack: &mut stack, kinds: &mut kinds, values: &mut values })?;
+impl Owned {
+    fn of(shape: Shape, cells: Cells) -> Result<Self, Error> {
+        let codels = shape.codels();
+        Ok(Owned {
+            colours: allocated(shape.pixels())?,
+            map: allocated(codels)?,
+            rows: allocated(ROW * codels)?,
+            exits: allocated(EXITS * codels)?,
+            work: allocated(codels)?,
+            stack: allocated(cells.stack)?,
+            kinds: allocated(cells.outputs)?,
+            values: allocated(cells.outputs)?,
+        })
+    }
+
+    fn lent(&mut self) -> PictureRoom<'_> {
+        let Owned { colours, map, rows, exits, work, stack, kinds, values } = self;
+        let (table, run) = (TableRoom { map, rows, exits, work }, RunRoom { stack, kinds, values });
+        PictureRoom { colours, table, run }
+    }
+}
+
+/// Runs a picture in room that is allocated for it.
+///
+/// # Errors
+///
+/// Memory, which is asked for first, and what [`run_picture`] refuses.
+pub fn run_pixels(picture: Picture, terms: Terms, cells: Cells) -> Result<Told, Error> {
+    let mut owned = Owned::of(picture.shape, cells)?;
+    let pictured = run_picture(picture, terms, owned.lent())?;
+    let Owned { rows, exits, mut stack, kinds, values, .. } = owned;
+    let (ended, regions) = (pictured.ended, pictured.regions);
+    let stands_in = proved(Table { regions, rows: &rows, exits: &exits }.region(ended.region));
     stack.truncate(ended.depth);
-    let outputs = kinds.into_iter().zip(values).take(ended.outputs).map(output).collect();
-    Ok(Told { ended, label: label_of(table, ended.region)?, stack, outputs })
+    let outputs = outputs_of(&kinds, &values, ended.outputs)?;
+    Ok(Told { ended, regions, label: stands_in.label()?, stack, outputs })
 }
 
-fn output((kind, value): (u8, i64)) -> Output {
-    match kind {
-        1 => {
-            Output::Char(u32::try_from(value).ok().and_then(char::from_u32).expect("CharOut emits a scalar"))
-        }
-        _ => Output::Int(value),
-    }
-}
-
-fn label_of(table: Table, region: usize) -> Result<String, Refusal> {
-    let row = &table.rows[ROW * region..][..ROW];
-    let mut out = [0; LABEL];
-    let length = label(row[0] as u8, (row[2] as usize, row[3] as usize), &mut out)?;
-    Ok(out[..length].iter().map(|&byte| byte as char).collect())
-}
-
-impl fmt::Display for Output {
-    fn fmt(&self, f: &mut fmt::Formatter<'_>) -> fmt::Result {
-        match self {
-            Output::Char(c) => write!(f, "c{}", u32::from(*c)),
-            Output::Int(n) => write!(f, "i{n}"),
-        }
-    }
+fn outputs_of(kinds: &[u8], values: &[i64], count: usize) -> Result<Vec<Output>, Error> {
+    let mut outputs = reserved(count)?;
+    let cells = kinds.iter().zip(values).take(count);
+    outputs.extend(cells.map(|(&kind, &value)| proved(Output::of(kind, value))));
+    Ok(outputs)
 }
 
 impl fmt::Display for Told {
     fn fmt(&self, f: &mut fmt::Formatter<'_>) -> fmt::Result {
-        let Ended { status, steps, dp, cc, .. } = self.ended;
-        writeln!(f, "status {}\nsteps {steps}\nat {} {dp} {cc}", status as u8, self.label)?;
+        let Ended { status, steps, pointers, .. } = self.ended;
+        writeln!(f, "status {}\nsteps {steps}", status.number())?;
+        writeln!(f, "at {} {} {}", self.label, pointers.dp.number(), pointers.cc.number())?;
         write!(f, "stack {}", self.stack.len())?;
         self.stack.iter().rev().try_for_each(|value| write!(f, " {value}"))?;
         write!(f, "\nout {}", self.outputs.len())?;

@@ -3,10 +3,13 @@
 //! C has a slice as a pointer and a length, and the archive wants no null pointer. The pointer of a Rust slice is never
 //! null: that of an empty one dangles, but it is aligned and not null, and the archive reads no element of it. `&mut`
 //! slices can't overlap, so neither can those that are written. `bool` is one byte, 0 or 1, on both sides.
-use crate::{Lent, Room, Shape, Table, Terms};
+use crate::{PictureRoom, RunRoom, Shape, Table, TableRoom, Terms};
 
 #[cfg(not(target_arch = "x86_64"))]
 compile_error!("libpiet_c.a is for x86-64");
+
+#[cfg(test)]
+mod tests;
 
 extern "C" {
     fn piet_classify(
@@ -74,6 +77,36 @@ extern "C" {
         answer: *mut u64,
         answer_length: usize,
     ) -> u32;
+    fn piet_run_picture(
+        pixels: *const u8,
+        pixels_length: usize,
+        height: usize,
+        width: usize,
+        setting: u8,
+        codel: usize,
+        limit: u64,
+        abstract_mode: bool,
+        input: *const u8,
+        input_length: usize,
+        colours: *mut u8,
+        colours_length: usize,
+        map: *mut u32,
+        map_length: usize,
+        rows: *mut u32,
+        rows_length: usize,
+        exits: *mut u32,
+        exits_length: usize,
+        work: *mut u32,
+        work_length: usize,
+        stack: *mut i64,
+        stack_length: usize,
+        kinds: *mut u8,
+        kinds_length: usize,
+        values: *mut i64,
+        values_length: usize,
+        answer: *mut u64,
+        answer_length: usize,
+    ) -> u32;
 }
 
 pub fn classify(
@@ -99,7 +132,7 @@ pub fn classify(
     }
 }
 
-pub fn build(colours: &[u8], shape: Shape, lent: Lent, answer: &mut [u64; 2]) -> u32 {
+pub fn build(colours: &[u8], shape: Shape, room: TableRoom, answer: &mut [u64; 2]) -> u32 {
     // SAFETY: each pointer comes with the length of its slice
     unsafe {
         piet_build(
@@ -108,14 +141,14 @@ pub fn build(colours: &[u8], shape: Shape, lent: Lent, answer: &mut [u64; 2]) ->
             shape.height,
             shape.width,
             shape.codel,
-            lent.map.as_mut_ptr(),
-            lent.map.len(),
-            lent.rows.as_mut_ptr(),
-            lent.rows.len(),
-            lent.exits.as_mut_ptr(),
-            lent.exits.len(),
-            lent.work.as_mut_ptr(),
-            lent.work.len(),
+            room.map.as_mut_ptr(),
+            room.map.len(),
+            room.rows.as_mut_ptr(),
+            room.rows.len(),
+            room.exits.as_mut_ptr(),
+            room.exits.len(),
+            room.work.as_mut_ptr(),
+            room.work.len(),
             answer.as_mut_ptr(),
             answer.len(),
         )
@@ -135,7 +168,7 @@ pub fn determine_runs_forever(table: Table, answer: &mut [u64; 1]) -> u32 {
     unsafe { piet_determine_runs_forever(regions, r, rows.len(), e, exits.len(), a, answer.len()) }
 }
 
-pub fn run(table: Table, terms: Terms, room: Room, answer: &mut [u64; 8]) -> u32 {
+pub fn run(table: Table, terms: Terms, room: RunRoom, answer: &mut [u64; 8]) -> u32 {
     // SAFETY: each pointer comes with the length of its slice
     unsafe {
         piet_run(
@@ -154,6 +187,47 @@ pub fn run(table: Table, terms: Terms, room: Room, answer: &mut [u64; 8]) -> u32
             room.kinds.len(),
             room.values.as_mut_ptr(),
             room.values.len(),
+            answer.as_mut_ptr(),
+            answer.len(),
+        )
+    }
+}
+
+/// Pixels, their shape, and the setting for unknown ones by its number.
+pub type Painted<'a> = (&'a [u8], Shape, u8);
+
+pub fn run_picture(picture: Painted, terms: Terms, room: PictureRoom, answer: &mut [u64; 9]) -> u32 {
+    let (pixels, shape, setting) = picture;
+    let PictureRoom { colours, table, run } = room;
+    // SAFETY: each pointer comes with the length of its slice
+    unsafe {
+        piet_run_picture(
+            pixels.as_ptr(),
+            pixels.len(),
+            shape.height,
+            shape.width,
+            setting,
+            shape.codel,
+            terms.limit,
+            terms.abstract_mode,
+            terms.input.as_ptr(),
+            terms.input.len(),
+            colours.as_mut_ptr(),
+            colours.len(),
+            table.map.as_mut_ptr(),
+            table.map.len(),
+            table.rows.as_mut_ptr(),
+            table.rows.len(),
+            table.exits.as_mut_ptr(),
+            table.exits.len(),
+            table.work.as_mut_ptr(),
+            table.work.len(),
+            run.stack.as_mut_ptr(),
+            run.stack.len(),
+            run.kinds.as_mut_ptr(),
+            run.kinds.len(),
+            run.values.as_mut_ptr(),
+            run.values.len(),
             answer.as_mut_ptr(),
             answer.len(),
         )

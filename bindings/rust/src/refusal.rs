@@ -1,25 +1,48 @@
-//! Document 01's refusals as an error.
+//! The library's refusals as an error.
+use crate::numbers::proved;
 use std::fmt;
 
-/// Why a call was refused. A refused call leaves every slice that it was lent as it was. Number 11 is the run
-/// program's alone.
-#[derive(Clone, Copy, Debug, PartialEq, Eq)]
+/// Why a call was refused. A refused call leaves every slice that it was lent as it was.
+///
+/// The library's number 11 is the run program's alone.
+#[derive(Clone, Copy, Debug, PartialEq, Eq, Hash)]
+#[non_exhaustive]
 pub enum Refusal {
+    /// 1: height or width is 0 or above 1,024 pixels.
     Size,
+    /// 2: the pixels are not 3 x height x width bytes, or the colours not height x width.
     Bytes,
+    /// 3: a setting for unknown pixels above 3, which [`crate::Unknown`] refuses to be made of.
     Setting,
+    /// 4: a lent slice is too short.
     Room,
-    Pixel { row: usize, column: usize },
+    /// 5: a pixel is none of the twenty colours, and it was not said what becomes of it.
+    Pixel {
+        /// The row of the first such pixel.
+        row: usize,
+        /// Its column.
+        column: usize,
+    },
+    /// 6: the codel width is 0 or above 1,024.
     Codel,
+    /// 7: there are more than 65,536 codels.
     Grid,
-    Colour { index: usize },
+    /// 8: a colour number is above 19.
+    Colour {
+        /// The index of the first such colour.
+        index: usize,
+    },
+    /// 9: pixel (0,0) is white, and a run can't start there.
     White,
+    /// 10: the table is not valid: its count of regions is 0 or above 65,536, a slice is short, a node mark is above 1,
+    /// or an exit is none or leads to a region that the table doesn't have.
     Table,
+    /// 12: row or column of a label is above 1,023, or under 22 bytes are lent for it.
     Label,
 }
 
 impl Refusal {
-    /// Document 01's number.
+    /// The library's number.
     pub fn number(self) -> u32 {
         match self {
             Refusal::Size => 1,
@@ -36,12 +59,17 @@ impl Refusal {
         }
     }
 
-    /// What a call's number says, with the answer cells that name a place: row and column of a pixel, and the index of
-    /// a colour in the second of them.
+    /// What a call's number says, with the answer cells that name a place.
     pub(crate) fn unless_done(number: u32, place: [u64; 2]) -> Result<(), Refusal> {
-        let [first, second] = place.map(|cell| cell as usize);
-        Err(match number {
-            0 => return Ok(()),
+        match number {
+            0 => Ok(()),
+            _ => Err(proved(Refusal::of(number, place.map(|cell| cell as usize)))),
+        }
+    }
+
+    /// The refusal of a number. The place is row and column of a pixel; the index of a colour is the second of the two.
+    fn of(number: u32, [first, second]: [usize; 2]) -> Option<Refusal> {
+        Some(match number {
             1 => Refusal::Size,
             2 => Refusal::Bytes,
             3 => Refusal::Setting,
@@ -53,7 +81,7 @@ impl Refusal {
             9 => Refusal::White,
             10 => Refusal::Table,
             12 => Refusal::Label,
-            _ => unreachable!("the library is proved to give document 01's numbers, and gave {number}"),
+            _ => return None,
         })
     }
 }

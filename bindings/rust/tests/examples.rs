@@ -1,5 +1,5 @@
 //! The repository's examples: each job through the library gives what stands beside it.
-use piet::{run_pixels, Cells, Shape, Terms};
+use piet::{run_pixels, Cells, Error, Picture, Shape, Terms};
 use std::fs;
 use std::path::{Path, PathBuf};
 
@@ -27,9 +27,10 @@ fn answer(job: &[u8]) -> String {
     let limit = u64::from_le_bytes(way[..8].try_into().expect("eight bytes"));
     let shape = Shape { height: side(0), width: side(2), codel: side(4) };
     let terms = Terms { limit, abstract_mode: way[8] == 1, input };
-    match run_pixels(&picture[6..], shape, terms, CELLS) {
+    match run_pixels(Picture::of(&picture[6..], shape), terms, CELLS) {
         Ok(told) => told.to_string(),
-        Err(refusal) => format!("refused {}\n", refusal.number()),
+        Err(Error::Refused(refusal)) => format!("refused {}\n", refusal.number()),
+        Err(error) => error.to_string(),
     }
 }
 

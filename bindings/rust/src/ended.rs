@@ -1,0 +1,66 @@
+//! Where a run stopped, and why.
+use crate::numbers::{from_outside, numbered, proved, NoSuch};
+use crate::{Cc, Dp, Pointers};
+
+numbered! {
+    /// Why a run stopped. At the last three the step is not taken, and everything stands as before it.
+    Status {
+        /// No attempt is open.
+        Completed = 1,
+        /// As many steps as the limit were taken.
+        MaxSteps = 2,
+        /// Abstract mode, after an input instruction.
+        NeedsInput = 3,
+        /// The depth after the step would pass the stack's room.
+        StackFull = 4,
+        /// The step would write, and no output cell is left.
+        OutputFull = 5,
+        /// The line that the step would read is not UTF-8.
+        BadInput = 6,
+    }
+}
+
+from_outside!(Status, "status");
+
+/// Where a run stopped.
+#[derive(Clone, Copy, Debug, PartialEq, Eq, Hash)]
+pub struct Ended {
+    /// Why it stopped.
+    pub status: Status,
+    /// The steps taken.
+    pub steps: u64,
+    /// The region that it stands in.
+    pub region: usize,
+    /// The pointers.
+    pub pointers: Pointers,
+    /// The depth of the stack.
+    pub depth: usize,
+    /// The count of outputs.
+    pub outputs: usize,
+    /// The bytes of input that were read.
+    pub used: usize,
+}
+
+impl Ended {
+    /// The end that the cells of an answer say.
+    pub(crate) fn of([status, steps, region, dp, cc, depth, outputs, used]: [u64; 8]) -> Self {
+        Ended {
+            status: proved(Status::of(status)),
+            steps,
+            region: region as usize,
+            pointers: Pointers { dp: proved(Dp::of(dp)), cc: proved(Cc::of(cc)) },
+            depth: depth as usize,
+            outputs: outputs as usize,
+            used: used as usize,
+        }
+    }
+}
+
+/// Where the run of a picture stopped.
+#[derive(Clone, Copy, Debug, PartialEq, Eq, Hash)]
+pub struct Pictured {
+    /// The run's end.
+    pub ended: Ended,
+    /// The count of the picture's regions.
+    pub regions: usize,
+}

@@ -1,0 +1,168 @@
+//! Pictures by chance: one call for a picture is classifying, building and running, one after the other.
+use crate::support::{pixel, Slices, UNKNOWN};
+use piet::{
+    build, classify, run, run_picture, run_pixels, Cells, Colour, Error, Output, Picture, Pictured, Refusal,
+    Shape, Terms, Unknown,
+};
+use std::collections::BTreeSet;
+
+const PICTURES: u64 = 40_000;
+
+/// SplitMix64.
+struct Chance(u64);
+
+impl Chance {
+    fn next(&mut self) -> u64 {
+        self.0 = self.0.wrapping_add(0x9E37_79B9_7F4A_7C15);
+        let mut mixed = self.0;
+        mixed = (mixed ^ (mixed >> 30)).wrapping_mul(0xBF58_476D_1CE4_E5B9);
+        mixed = (mixed ^ (mixed >> 27)).wrapping_mul(0x94D0_49BB_1331_11EB);
+        mixed ^ (mixed >> 31)
+    }
+
+    fn below(&mut self, bound: usize) -> usize {
+        (self.next() % bound as u64) as usize
+    }
+
+    /// True once in so many times.
+    fn once_in(&mut self, times: usize) -> bool {
+        self.below(times) == 0
+    }
+
+    fn one_of<T: Copy>(&mut self, all: &[T]) -> T {
+        all[self.below(all.len())]
+    }
+}
+
+/// What one question is made of.
+struct Question {
+    pixels: Vec<u8>,
+    shape: Shape,
+    unknown: Unknown,
+    limit: u64,
+    abstract_mode: bool,
+    input: &'static [u8],
+    cells: Cells,
+}
+
+impl Question {
+    fn by(chance: &mut Chance) -> Self {
+        let shape = Shape {
+            height: if chance.once_in(64) { 0 } else { 1 + chance.below(6) },
+            width: if chance.once_in(64) { 1_025 } else { 1 + chance.below(9) },
+            codel: if chance.once_in(32) { 0 } else { 1 + chance.below(3) },
+        };
+        let inputs = [&b""[..], b"5\n-7\n", b"+1\n\nx\n\xC3\xA9\n", b"3\n\xFF\n", b" 12\n12"];
+        Question {
+            pixels: painted(shape, chance),
+            shape,
+            unknown: chance.one_of(&Unknown::ALL),
+            limit: chance.below(60) as u64,
+            abstract_mode: chance.once_in(4),
+            input: chance.one_of(&inputs),
+            cells: Cells { stack: chance.below(8), outputs: chance.below(4) },
+        }
+    }
+
+    fn picture(&self) -> Picture<'_> {
+        Picture { pixels: &self.pixels, shape: self.shape, unknown: self.unknown }
+    }
+
+    fn terms(&self) -> Terms<'_> {
+        Terms { limit: self.limit, abstract_mode: self.abstract_mode, input: self.input }
+    }
+}
+
+/// Pixels of a few colours; sometimes one is unknown, or a byte is missing.
+fn painted(shape: Shape, chance: &mut Chance) -> Vec<u8> {
+    let mut palette: Vec<_> = (0..2 + chance.below(5)).map(|_| pixel(chance.one_of(&Colour::ALL))).collect();
+    palette.extend(chance.once_in(2).then(|| pixel(Colour::White)));
+    palette.extend(chance.once_in(2).then(|| pixel(Colour::Black)));
+    let mut pixels: Vec<_> = (0..shape.height * shape.width).map(|_| chance.one_of(&palette)).collect();
+    if chance.once_in(8) && !pixels.is_empty() {
+        let at = chance.below(pixels.len());
+        pixels[at] = UNKNOWN;
+    }
+    let mut bytes = pixels.concat();
+    if chance.once_in(64) {
+        bytes.pop();
+    }
+    bytes
+}
+
+/// A picture's room, in which sometimes a cell is missing.
+fn room(question: &Question, chance: &mut Chance) -> Slices {
+    let mut slices = Slices::of(question.shape, question.cells);
+    if chance.once_in(32) {
+        slices.colours.pop();
+    }
+    if chance.once_in(32) {
+        slices.table[chance.below(4)].pop();
+    }
+    slices
+}
+
+fn in_three_calls(question: &Question, slices: &mut Slices) -> Result<Pictured, Refusal> {
+    let Shape { height, width, .. } = question.shape;
+    classify(&question.pixels, (height, width), question.unknown, &mut slices.colours)?;
+    let colours = slices.colours[..height * width].to_vec();
+    let regions = build(&colours, question.shape, slices.lent().table)?;
+    let built = slices.clone();
+    let ended = run(built.table(regions), question.terms(), slices.lent().run)?;
+    Ok(Pictured { ended, regions })
+}
+
+/// The three calls, with every slice as it was where one of them is refused.
+fn expected(question: &Question, before: &Slices) -> (Result<Pictured, Refusal>, Slices) {
+    let mut slices = before.clone();
+    match in_three_calls(question, &mut slices) {
+        Ok(pictured) => (Ok(pictured), slices),
+        Err(refusal) => (Err(refusal), before.clone()),
+    }
+}
+
+#[test]
+fn a_picture_in_one_call() {
+    let (mut chance, mut met) = (Chance(7), BTreeSet::new());
+    for _ in 0..PICTURES {
+        let question = Question::by(&mut chance);
+        let before = room(&question, &mut chance);
+        let mut slices = before.clone();
+        let answer = run_picture(question.picture(), question.terms(), slices.lent());
+        assert_eq!((answer, slices), expected(&question, &before));
+        met.insert(answer.map(|pictured| pictured.ended.status.number()).map_err(Refusal::number));
+    }
+    let statuses = (1..=6).map(Ok);
+    let refusals = [1, 2, 4, 5, 6, 9].map(Err);
+    assert_eq!(met, statuses.chain(refusals).collect());
+}
+
+#[test]
+fn a_picture_with_the_room_made() {
+    let mut chance = Chance(8);
+    for _ in 0..PICTURES {
+        let question = Question::by(&mut chance);
+        let told = run_pixels(question.picture(), question.terms(), question.cells);
+        let (answer, slices) = expected(&question, &Slices::of(question.shape, question.cells));
+        let told = match (answer, told) {
+            (Ok(pictured), Ok(told)) => (pictured, told),
+            (refused, told) => {
+                assert_eq!(told.unwrap_err(), Error::Refused(refused.unwrap_err()));
+                continue;
+            }
+        };
+        told_is(told, &slices);
+    }
+}
+
+fn told_is((Pictured { ended, regions }, told): (Pictured, piet::Told), slices: &Slices) {
+    assert_eq!((told.ended, told.regions), (ended, regions));
+    assert_eq!(told.stack, slices.stack[..ended.depth]);
+    let outputs = slices.kinds.iter().zip(&slices.values).take(ended.outputs);
+    assert_eq!(
+        told.outputs,
+        outputs.map(|(&kind, &value)| Output::of(kind, value).unwrap()).collect::<Vec<_>>()
+    );
+    let region = slices.table(regions).region(ended.region).unwrap();
+    assert_eq!(Ok(told.label), region.label());
+}

@@ -1,0 +1,12 @@
+//! The library through the safe calls.
+mod by_chance;
+mod classifying;
+mod errors;
+mod exits;
+mod labels;
+mod numbers;
+mod pictures;
+mod shapes;
+mod support;
+mod tables;
+mod worked;

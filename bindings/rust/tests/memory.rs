@@ -1,0 +1,80 @@
+//! Memory that can't be had is an error: for lengths that no machine has, and at every single request.
+use piet::{run_pixels, Cells, Error, Picture, Refusal, Shape, Terms};
+use std::alloc::{GlobalAlloc, Layout, System};
+use std::cell::Cell;
+
+thread_local! {
+    /// How many requests of this thread are still granted; none is the end of it.
+    static GRANTED: Cell<Option<usize>> = const { Cell::new(None) };
+}
+
+/// The system's memory, which a test may run out of.
+struct Scarce;
+
+#[global_allocator]
+static MEMORY: Scarce = Scarce;
+
+// SAFETY: a request is either passed to the system's allocator as it is, or answered by null, which says that there is
+// no memory
+unsafe impl GlobalAlloc for Scarce {
+    unsafe fn alloc(&self, layout: Layout) -> *mut u8 {
+        match GRANTED.get() {
+            Some(0) => return std::ptr::null_mut(),
+            Some(more) => GRANTED.set(Some(more - 1)),
+            None => {}
+        }
+        System.alloc(layout)
+    }
+
+    unsafe fn dealloc(&self, pointer: *mut u8, layout: Layout) {
+        System.dealloc(pointer, layout)
+    }
+}
+
+const PIXELS: [u8; 15] = [0xFF, 0, 0, 0xC0, 0xC0, 0xFF, 0xC0, 0xFF, 0xC0, 0xC0, 0xC0, 0, 0xFF, 0xC0, 0xC0];
+const SHAPE: Shape = Shape { height: 1, width: 5, codel: 1 };
+const TERMS: Terms = Terms { limit: 4, abstract_mode: false, input: b"65\n" };
+const CELLS: Cells = Cells { stack: 8, outputs: 8 };
+
+/// The answer where so many requests are granted.
+fn granted(requests: usize) -> Result<piet::Told, Error> {
+    GRANTED.set(Some(requests));
+    let told = run_pixels(Picture::of(&PIXELS, SHAPE), TERMS, CELLS);
+    GRANTED.set(None);
+    told
+}
+
+/// Eight slices, the outputs and the label: ten requests, and each may fail.
+#[test]
+fn every_request_may_fail() {
+    for requests in 0..10 {
+        assert_eq!(granted(requests), Err(Error::Memory), "with {requests} granted");
+    }
+    let told = granted(10).unwrap();
+    assert_eq!(told.to_string(), "status 2\nsteps 4\nat LightRed_0_4 0 0\nstack 0\nout 2 c65 i65\n");
+}
+
+#[test]
+fn lengths_that_no_machine_has() {
+    let largest = isize::MAX as usize;
+    for cells in [usize::MAX, usize::MAX / 2, largest, largest + 1, largest - 4_096, usize::MAX / 8, 1 << 60]
+    {
+        let picture = Picture::of(&PIXELS, SHAPE);
+        assert_eq!(run_pixels(picture, TERMS, Cells { stack: cells, ..CELLS }), Err(Error::Memory));
+        assert_eq!(run_pixels(picture, TERMS, Cells { outputs: cells, ..CELLS }), Err(Error::Memory));
+    }
+}
+
+/// Sides of any size ask for no more than an accepted picture.
+#[test]
+fn sides_that_no_picture_has() {
+    let refused = |height, width, codel| {
+        run_pixels(Picture::of(&PIXELS, Shape { height, width, codel }), TERMS, CELLS).unwrap_err()
+    };
+    for side in [1_025, 1 << 32, usize::MAX] {
+        for codel in [0, 1, usize::MAX] {
+            assert_eq!(refused(side, side, codel), Error::Refused(Refusal::Size));
+            assert_eq!(refused(1, side, codel), Error::Refused(Refusal::Size));
+        }
+    }
+}
