@@ -1,0 +1,2 @@
+-- Reading and writing whole.
+pub mod Stream
