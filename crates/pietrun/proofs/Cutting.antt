@@ -1,16 +1,14 @@
 -- An input and its first 8,193 bytes have the same answer. Assumes nothing.
-use mathlib.Core.Path.{_≡_, refl, sym, subst}
+use mathlib.Core.Path.{_≡_, refl, subst}
 use mathlib.Core.Bool.{Bool, true, false}
-use mathlib.Core.List.{List, [], _∷_}
-use Prim.Native.Nat.{ℕ, _≤_, _<_}
+use mathlib.Core.List.{List}
+use Prim.Native.Nat.{ℕ, _<_}
 use native.Mathlib.Omega.{arith}
 use borrow.Author.Tests.{ltb-true, ltb-false}
 use lib.Dec.{ltb}
 use lib.ListN.{length, take}
 use lib.Seq.{length-take-le, take-all}
-use Rattle.stream.specs.declared.Stop.{Stop}
-use Rattle.job.specs.Encoding.{Content, IsJob}
-use Rattle.answer.specs.Answer.{Answers, no-job, refused, ran, Prints, Outcome, short, printed}
+use Rattle.answer.specs.Answer.{Answers, no-job, refused, ran, Outcome, short, printed}
 
 -- too long for a job
 long-answers : {cut input text : List ℕ} → 8192 < length cut → 8192 < length input → Answers cut text → Answers input text

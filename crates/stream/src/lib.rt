@@ -5,6 +5,7 @@ ghost use lib.ListN.{length};
 ghost use Rattle.stream.specs.Stream.{stepOf, movedOf, vainOf, goesOn, isEnd, wholeInput, Makes, Reads, Stops};
 use libc::EAGAIN;
 use libc::EINTR;
+use libc::types::timespec;
 
 // What one call of read or write came to.
 pub enum Step {
@@ -53,6 +54,19 @@ fn moved(step: Step) -> usize
     }
 }
 
+// Waits a millisecond, or less where a signal comes.
+fn pause() {
+    let asked = timespec {
+        tv_sec: 0,
+        tv_nsec: 1000000,
+    };
+    let mut left = timespec {
+        tv_sec: 0,
+        tv_nsec: 0,
+    };
+    libc::nanosleep(&asked, &mut left);
+}
+
 // Waits where the call is to be made again, and counts it as one in vain.
 fn waited(step: Step) -> u64
     ensures { λ r. ⌜ r ≡ vainOf step ⌝ }
@@ -61,7 +75,7 @@ fn waited(step: Step) -> u64
         Step::Moved(_) => 0,
         Step::End => 0,
         Step::Again => {
-            libc::sched_yield();
+            pause();
             1
         }
         Step::Failed => 0,

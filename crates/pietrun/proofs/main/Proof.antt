@@ -4,13 +4,6 @@ use lib.Seq.{length-take-le}
 use borrow.Author.Needs.{needs}
 use Rattle.pietrun.proofs.main.Statement.{statement}
 use Rattle.pietrun.proofs.main.Tie as tie
-use Rattle.pietrun.proofs.main.Reads as reads
-use Rattle.pietrun.proofs.main.Lts as lts
-use Rattle.os.proofs.fail.Reads as fail-reads
-use Rattle.pietrun.proofs.respond.Reads as respond-reads
-use Rattle.stream.proofs.is_whole.Reads as is-whole-reads
-use Rattle.stream.proofs.read_whole.Reads as read-whole-reads
-use Rattle.stream.proofs.write_whole.Reads as write-whole-reads
 
 slice-aggregate-read-whole : tie.Need-slice-aggregate-read-whole
 slice-aggregate-read-whole c = search needs

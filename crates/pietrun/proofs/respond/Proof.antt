@@ -9,10 +9,6 @@ use Rattle.pietrun.proofs.Cutting.{cut-outcome}
 use borrow.Author.Needs.{needs}
 use Rattle.pietrun.proofs.respond.Statement.{statement}
 use Rattle.pietrun.proofs.respond.Tie as tie
-use Rattle.pietrun.proofs.respond.Reads as reads
-use Rattle.pietrun.proofs.respond.Lts as lts
-use Rattle.answer.proofs.answer.Reads as answer-reads
-use Rattle.stream.proofs.is_whole.Reads as is-whole-reads
 
 is-whole-requires : tie.Need-is-whole-requires
 is-whole-requires c κs = search needs

@@ -3,9 +3,6 @@ use borrow.Author.Tests.{eq-eqb, ne-eqb}
 use borrow.Author.Needs.{needs}
 use Rattle.stream.proofs.is_whole.Statement.{statement}
 use Rattle.stream.proofs.is_whole.Tie as tie
-use Rattle.stream.proofs.is_whole.Reads as reads
-use Rattle.stream.proofs.is_whole.Lts as lts
-use Rattle.stream.proofs.is_end.Reads as is-end-reads
 
 returns : tie.Need-returns
 returns c = rw (eq-eqb (c .before .before .args .stop .done) (c .before .before .args .room) (c .if1 .taken))

@@ -3,8 +3,6 @@ use mathlib.Core.Path.{_∙_}
 use Rattle.stream.proofs.Judging.{casts, moved-is, end-is, error-is, interrupted, not-yet, failed}
 use Rattle.stream.proofs.judge.Statement.{statement}
 use Rattle.stream.proofs.judge.Tie as tie
-use Rattle.stream.proofs.judge.Reads as reads
-use Rattle.stream.proofs.judge.Lts as lts
 
 cast-t4 : tie.Need-cast-t4
 cast-t4 c = casts (c .before .args .took) (c .before .fits .took) (c .if1 .taken)

@@ -1,19 +1,13 @@
 -- `stream::read_from` meets its contract: the read changes what stands from the index on, and nothing before it.
 -- Assumes nothing.
-use mathlib.Core.Path.{_≡_}
 use Prim.Native.Nat.{_-_}
 use lib.ListN.{length}
 use native.Mathlib.Omega.{arith}
 use borrow.Author.Needs.{needs}
-use borrow.Rule.Slice.PartMut.{take-put, same-len-mid}
+use borrow.Rule.Slice.PartMut.{take-put}
 use Rattle.stream.proofs.Judging.{makes}
 use Rattle.stream.proofs.read_from.Statement.{statement}
 use Rattle.stream.proofs.read_from.Tie as tie
-use Rattle.stream.proofs.read_from.Reads as reads
-use Rattle.stream.proofs.read_from.Lts as lts
-use Rattle.libc.proofs.read.Reads as read-reads
-use Rattle.os.proofs.errno.Reads as errno-reads
-use Rattle.stream.proofs.judge.Reads as judge-reads
 
 sub-read : tie.Need-sub-read
 sub-read c = search needs

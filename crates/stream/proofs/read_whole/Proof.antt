@@ -9,12 +9,6 @@ use borrow.Author.Needs.{needs}
 use Rattle.stream.proofs.Turning.{left, less, vain-few}
 use Rattle.stream.proofs.read_whole.Statement.{statement}
 use Rattle.stream.proofs.read_whole.Tie as tie
-use Rattle.stream.proofs.read_whole.Reads as reads
-use Rattle.stream.proofs.read_whole.Lts as lts
-use Rattle.stream.proofs.goes_on.Reads as goes-on-reads
-use Rattle.stream.proofs.moved.Reads as moved-reads
-use Rattle.stream.proofs.read_from.Reads as read-from-reads
-use Rattle.stream.proofs.waited.Reads as waited-reads
 
 abbrev Inv-loop : tie.InvT-loop
 Inv-loop fd buf₀ done₀ last₀ tries₀ buf done last tries = (length buf ≡ length buf₀) × (done ≤ length buf) × (tries ≤ 4294967296)

@@ -6,11 +6,6 @@ use borrow.Author.Needs.{needs}
 use Rattle.stream.proofs.Judging.{makes}
 use Rattle.stream.proofs.write_from.Statement.{statement}
 use Rattle.stream.proofs.write_from.Tie as tie
-use Rattle.stream.proofs.write_from.Reads as reads
-use Rattle.stream.proofs.write_from.Lts as lts
-use Rattle.libc.proofs.write.Reads as write-reads
-use Rattle.os.proofs.errno.Reads as errno-reads
-use Rattle.stream.proofs.judge.Reads as judge-reads
 
 sub-write : tie.Need-sub-write
 sub-write c = search needs

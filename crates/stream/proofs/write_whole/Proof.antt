@@ -8,12 +8,6 @@ use borrow.Author.Needs.{needs}
 use Rattle.stream.proofs.Turning.{left, less, vain-few}
 use Rattle.stream.proofs.write_whole.Statement.{statement}
 use Rattle.stream.proofs.write_whole.Tie as tie
-use Rattle.stream.proofs.write_whole.Reads as reads
-use Rattle.stream.proofs.write_whole.Lts as lts
-use Rattle.stream.proofs.goes_on.Reads as goes-on-reads
-use Rattle.stream.proofs.moved.Reads as moved-reads
-use Rattle.stream.proofs.waited.Reads as waited-reads
-use Rattle.stream.proofs.write_from.Reads as write-from-reads
 
 abbrev Inv-loop : tie.InvT-loop
 Inv-loop fd buf done₀ last₀ tries₀ done last tries = (done ≤ length buf) × (tries ≤ 4294967296)
