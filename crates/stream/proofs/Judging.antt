@@ -14,7 +14,8 @@ use Rattle.libc.specs.Io as io
 use Rattle.base.proofs.Clash.{clash}
 use Rattle.stream.specs.declared.Step.{Step}
 use Rattle.stream.specs.declared.Step.the-variants.{Moved, End, Again, Failed}
-use Rattle.stream.specs.Stream.{orFailed, failedBy, stepOf, Makes}
+use Rattle.stream.specs.Stream.{orFailed, failedBy, stepOf}
+use Rattle.stream.specs.Calls.{Makes}
 
 -- the test `took > 0`, on the number that is read back from took's bits
 abbrev Above : ℤ → Bool → Type 0

@@ -6,7 +6,7 @@ use native.Mathlib.Omega.{arith}
 use Rattle.base.proofs.Clash.{clash}
 use Rattle.stream.specs.declared.Step.{Step}
 use Rattle.stream.specs.declared.Step.the-variants.{Moved, End, Again, Failed}
-use Rattle.stream.specs.Stream.{movedOf, vainOf, goesOn, Makes}
+use Rattle.stream.specs.Calls.{movedOf, vainOf, goesOn, Makes}
 
 -- 1 while another call is to come
 abbrev pub going : Step → ℕ

@@ -2,7 +2,8 @@
 ghost use mathlib.Core.Path.{_≡_};
 ghost use Prim.Native.Nat.{_-_, _≤_};
 ghost use lib.ListN.{length};
-ghost use Rattle.stream.specs.Stream.{stepOf, movedOf, vainOf, goesOn, isEnd, wholeInput, Makes, Reads, Stops};
+ghost use Rattle.stream.specs.Stream.{stepOf, isEnd, wholeInput, Stops};
+ghost use Rattle.stream.specs.Calls.{movedOf, vainOf, goesOn, Makes, Reads};
 use libc::EAGAIN;
 use libc::EINTR;
 use libc::types::timespec;
@@ -24,8 +25,8 @@ pub struct Stop {
 // So many calls in vain, with a millisecond's wait after each, take more than 49 days.
 const PATIENCE: u64 = 4294967296;
 
-// What a call came to, by its answer and errno.
-pub fn judge(took: isize, error: i32) -> Step
+// What a call came to, by its answer and errno. Only an answer of 0 is the end: a call that failed says nothing of the input.
+fn judge(took: isize, error: i32) -> Step
     ensures { λ r. ⌜ r ≡ stepOf took error ⌝ }
 {
     if took > 0 {
