@@ -1,0 +1,45 @@
+-- `pietrun::respond` meets its contract. Assumes nothing.
+use mathlib.Core.Path.{refl, sym, _∙_}
+use native.Mathlib.Omega.{arith}
+use lib.Seq.{length-take-le}
+use borrow.Author.Tests.{not-true, not-false}
+use Rattle.answer.proofs.Answering.{answer-within}
+use Rattle.pietrun.specs.Responds.{answered, unread}
+use Rattle.pietrun.proofs.Cutting.{cut-outcome}
+use borrow.Author.Needs.{needs}
+use Rattle.pietrun.proofs.respond.Statement.{statement}
+use Rattle.pietrun.proofs.respond.Tie as tie
+
+is-whole-requires : tie.Need-is-whole-requires
+is-whole-requires c κs = search needs
+
+returns : tie.Need-returns
+returns c = (omega arith, unread (sym (c .before .is-whole .ensures) ∙ not-true (c .before .is-whole .result) (c .if1 .taken)) refl refl)
+
+slice-aggregate-answer : tie.Need-slice-aggregate-answer
+slice-aggregate-answer c = sym (length-take-le _ _ (c .before .before .before .before .before .pre .1))
+
+answer-requires : tie.Need-answer-requires
+answer-requires c κs = search needs
+
+same-length : tie.Need-same-length
+same-length c = search needs
+
+returns-2 : tie.Need-returns-2
+returns-2 c =
+    let whole = c .before .before .before .before .before in
+    let said = c .before .before .answer in (
+      answer-within (said .ensures),
+      answered (sym (whole .before .is-whole .ensures) ∙ not-false (whole .before .is-whole .result) (whole .if1 .left)) (λ input h. cut-outcome input (rw h at (said .ensures))),
+    )
+
+pub respond-spec : {M : Type 1} → statement M
+respond-spec =
+    tie.close
+    (tie.spec
+    is-whole-requires
+    returns
+    slice-aggregate-answer
+    answer-requires
+    same-length
+    returns-2)

@@ -1,0 +1,2 @@
+-- What the run program prints of what it read.
+pub mod Responds

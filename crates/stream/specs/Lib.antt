@@ -1,0 +1,3 @@
+-- Reading and writing whole.
+pub mod Stream
+pub mod Calls
