@@ -49,7 +49,7 @@ class Job(Picture):
     input: bytes = b""
 
     def size(self):
-        """The bytes of the job: 33 are the heads of three records, the sides, the codel width, the limit and the mode."""
+        """The bytes of the job: 33 are the heads of three records, the sides, the codel, the limit and the mode."""
         return 33 + len(self.pixels) + len(self.input)
 
 
@@ -105,8 +105,8 @@ def from_bytes(data):
 
 
 class Refusal(NamedTuple):
-    """Why the run program refuses a job, and what is to blame: the job as a whole, its size, its codel, or a pixel, then
-    with the pixel's row."""
+    """Why the run program refuses a job, and what is to blame: the job as a whole, its size, its codel, or a pixel
+    of some row."""
 
     part: str
     why: str
@@ -114,7 +114,7 @@ class Refusal(NamedTuple):
 
 
 def size_refusals(job):
-    """The refusals that no pixel is looked at for. Too many pixels are said to be that, whichever test they fail first."""
+    """Those that no pixel is looked at for. Too many pixels are said to be that, whichever test they fail first."""
     count, fits = job.height * job.width, all(1 <= side <= LONGEST_SIDE for side in (job.height, job.width))
     if job.has_its_pixels() and count > MOST_PIXELS:
         number = 11 if job.size() > LONGEST_JOB else 4 if fits else 1
@@ -132,13 +132,13 @@ def unknown_pixels(job, drawn):
     for row, pixels in enumerate(job.rows()):
         for column, pixel in enumerate(pixels):
             if pixel not in NAMES:
-                place = f"row {row * drawn}, column {column * drawn} (counted from 0)"
-                yield Refusal("pixel", f"the pixel at {place} is {raw(pixel)}, none of the twenty colours (refused 5)", row)
+                place = f"the pixel at row {row * drawn}, column {column * drawn} (counted from 0)"
+                yield Refusal("pixel", f"{place} is {raw(pixel)}, none of the twenty colours (refused 5)", row)
 
 
 def refusals(job, drawn=1):
-    """Why the run program would refuse the job, in the order of its tests. A pixel of the job may stand for a square of a
-    file, `drawn` pixels wide; places are those in the file."""
+    """Why the run program would refuse the job, in the order of its tests. A pixel of the job may stand for a square
+    of its file, `drawn` pixels wide; the places are those in the file."""
     yield from size_refusals(job)
     if not job.has_its_pixels():
         return
