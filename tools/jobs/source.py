@@ -92,5 +92,6 @@ def shrink_advice(picture, drawn):
     height, width = picture.height // side, picture.width // side
     if side > 1 and height * width <= MOST_PIXELS:
         drawn *= side
-        return f"its {drawn} x {drawn} squares are of one colour each, and --shrink {drawn} makes it {height} x {width}"
+        squares = f"its {drawn} x {drawn} squares, and none wider, are of one colour each"
+        return f"{squares}, and --shrink {drawn} makes it {height} x {width}"
     return "--shrink N keeps one pixel of each N x N, for a picture that is drawn with N x N pixels a codel"
