@@ -43,12 +43,13 @@ def header(data):
 def numbers(data, width):
     """The bytes that the numbers of a P3 say."""
     words = re.sub(rb"#[^\n]*", b"", data).split()
-    for at, word in enumerate(words):
-        if not re.fullmatch(rb"[0-9]{1,9}", word) or int(word) > 255:
-            row, column = divmod(at // 3, width)
-            place = f"at row {row}, column {column} (counted from 0)"
-            raise Wrong(f"{quoted(word.decode(errors='replace'))} {place} is no number from 0 to 255")
-    return bytes(int(word) for word in words)
+    wrong = {word for word in set(words) if not re.fullmatch(rb"[0-9]{1,9}", word) or int(word) > 255}
+    if wrong:
+        at = next(at for at, word in enumerate(words) if word in wrong)
+        row, column = divmod(at // 3, width)
+        place = f"at row {row}, column {column} (counted from 0)"
+        raise Wrong(f"{quoted(words[at].decode(errors='replace'))} {place} is no number from 0 to 255")
+    return bytes(map(int, words))
 
 
 def read_ppm(data, name):

@@ -35,7 +35,7 @@ def parse_mode(word):
 
 def unescape(text):
     """The bytes of a text with escapes: \\n \\t \\r \\0 \\\\ \\" and \\xHH for any byte."""
-    out = b""
+    out = bytearray()
     for piece in re.findall(r"\\x[0-9a-fA-F]{2}|\\.|[^\\]+|\\", text, re.DOTALL):
         if not piece.startswith("\\"):
             out += piece.encode(errors="surrogateescape")
@@ -45,7 +45,7 @@ def unescape(text):
             out += ESCAPES[piece[1:]]
         else:
             raise Wrong(f"unknown escape '{piece}' in the input; {KNOWN_ESCAPES}")
-    return out
+    return bytes(out)
 
 
 def escape(data):
