@@ -18,7 +18,7 @@ class Source:
     drawn: int = 1
 
     def shrunk(self, side):
-        """Of each square of pixels one, as which it is a codel of width 1 whatever the file says."""
+        """With one pixel of each square. It is a codel of width 1, whatever the file says."""
         settings = {name: value for name, value in self.settings.items() if name != "codel"}
         rows = self.row_lines[::side]
         return replace(self, picture=corners(self.picture, side), settings=settings, row_lines=rows, drawn=side)
