@@ -50,7 +50,7 @@ run-picture-only {a} {l} (done {e = end} e R) (done {e = end′} e′ R′) =
           (R .run ∙ ap (λ (x : End). slicesOf (l .run) (x .at .store)) z ∙ sym (R′ .run)),
     )
 
--- the number is that of the table of refusals; where it is not 0, the place is the table's too and "no lent byte changes";
+-- the number is that of the table of refusals; where it is not 0, the place is the table's too and no lent cell changes;
 -- where it is 0, the call runs the picture to an end
 pub record Refusal (a : Asked) (l : Lends) (r : Pictured) (l′ : Lends) : Type 0 where
   pub number : numberOf (numbered r) ≡ numberOf (refusalOf a l)

@@ -42,8 +42,8 @@ pub record Lends : Type 0 where
 abbrev pub askedPicture : Asked → Picture
 askedPicture a = picture (a .height) (a .width) (a .codel) (coloursUnder (a .pixels) (a .setting))
 
--- "then come the refusals of classifying, then of building": the two tables, one after the other; the last five numbers
--- are the lengths of the lent slices
+-- the refusals of classifying, then those of building: the two tables, one after the other; the last five numbers are the
+-- lengths of the lent slices
 unfoldable pub refusals : Asked → ℕ → ℕ → ℕ → ℕ → ℕ → List Row
 refusals a colours map rows exits work =
     classifying.refusals (a .pixels) (a .height) (a .width) (a .setting) colours ++ building.refusals (askedPicture a) map rows exits work

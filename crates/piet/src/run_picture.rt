@@ -50,8 +50,8 @@ fn first_colour(pixels: &[u8], setting: u8) -> u8
     colour_under(setting, f)
 }
 
-// Building's tests in document 01's order, where classifying refuses nothing: the pixels are then as many as they should
-// be and their colours at most 19. The lent slices are given by their lengths.
+// Building's tests in the order of its refusals, where classifying refuses nothing: the pixels are then as many as they
+// should be and their colours at most 19. The lent slices are given by their lengths.
 fn check_table(
     pixels: &[u8],
     height: usize,
