@@ -1,4 +1,4 @@
--- What the run program prints for a job (document 01, "The run program"). Assumes nothing.
+-- What the run program prints for a job (rules 13.3 to 13.6). Assumes nothing.
 use mathlib.Core.Path.{_≡_}
 use mathlib.Core.List.{List, [], _∷_}
 use Prim.Native.Nat.{ℕ, suc, _*_, _/_, _%_, _<_, _≤_}
@@ -19,16 +19,16 @@ use Rattle.job.specs.Encoding.{Content, IsJob}
 use Rattle.job.specs.Outcome as reading
 use Rattle.report.specs.Text.{resultText, refusalText}
 
--- what a job asks of a run: "Setting 0"
+-- what a job asks of a run, under setting 0 (rule 13.4)
 abbrev pub askedOf : Content → Asked
 askedOf c =
     asked (c .pixels) (c .height) (c .width) 0 (c .codel) (given (record { limit = c .limit; «abstract_mode» = c .abstracted }) (c .input))
 
--- "the refusals of classifying, then of building"; "room for 512 pixels", and so for the table of 512 codels
+-- the refusals of running a picture (rule 12.5), with room for 512 pixels, and so for the table of 512 codels (rule 13.4)
 abbrev pub refusalOf : Content → Numbers
 refusalOf c = refusal (askedOf c) 512 512 2560 4096 512
 
--- "256 stack cells, 256 outputs"
+-- the room of the stack and of the outputs (rule 13.4)
 abbrev pub runRoom : RunRoom
 runRoom = record { stack = 256; outs = 256 }
 
@@ -54,9 +54,9 @@ endText e label =
 
 -- the text that is printed for a list of bytes
 pub data Answers (job : List ℕ) : List ℕ → Type 0 where
-  -- "anything else is 11, tested first"
+  -- no job: 11, before all other refusals (rule 13.3)
   no-job : ((c : Content) → IsJob job c → ⊥) → Answers job (refusalText (numberOf (reading.numbered Refused)))
-  -- "A refusal prints `refused N`"
+  -- a refused job (rule 13.6)
   refused : (c : Content) → IsJob job c → (k : ℕ) (v : List ℕ) → refusalOf c ≡ numbers (suc k) v → Answers job (refusalText (suc k))
   ran : (c : Content) → IsJob job c → refusalOf c ≡ numbers 0 (0 ∷ 0 ∷ []) → (map : List ℕ) (e : End) (label : List ℕ) → Ran c map e label
       → Answers job (endText e label)

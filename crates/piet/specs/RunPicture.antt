@@ -1,4 +1,4 @@
--- From pixels to a run's result, over lent room. Assumes nothing.
+-- From pixels to a run's result, over lent room (rules 8.4 to 8.6, 12.5). Assumes nothing.
 use mathlib.Core.Path.{_≡_}
 use mathlib.Core.List.{List, [], _∷_, _++_}
 use Prim.Native.Nat.{ℕ, suc, _<_}
@@ -42,8 +42,8 @@ pub record Lends : Type 0 where
 abbrev pub askedPicture : Asked → Picture
 askedPicture a = picture (a .height) (a .width) (a .codel) (coloursUnder (a .pixels) (a .setting))
 
--- the refusals of classifying, then those of building: the two tables, one after the other; the last five numbers are the
--- lengths of the lent slices
+-- the refusals of classifying, then those of building (rule 12.5): the two tables, one after the other; the last five numbers
+-- are the lengths of the lent slices
 unfoldable pub refusals : Asked → ℕ → ℕ → ℕ → ℕ → ℕ → List Row
 refusals a colours map rows exits work =
     classifying.refusals (a .pixels) (a .height) (a .width) (a .setting) colours ++ building.refusals (askedPicture a) map rows exits work
@@ -54,7 +54,8 @@ refusal a colours map rows exits work = first (refusals a colours map rows exits
 abbrev pub refusalOf : Asked → Lends → Numbers
 refusalOf a l = refusal a (length (l .colours)) (length (l .map)) (length (l .rows)) (length (l .exits)) (length (l .work))
 
--- the refusal's number, with the place of an unknown pixel; or 0, with the run's result and then the count of regions
+-- the refusal's number, with the place of an unknown pixel (rule 12.2); or 0, with the run's result and then the count of
+-- regions (rule 8.5)
 abbrev pub numbered : Pictured → Numbers
 numbered (Refused number row column) = numbers number (row ∷ column ∷ [])
 numbered (Finished e regions) = numbers 0 (resultOf e ++ (regions ∷ []))

@@ -50,7 +50,7 @@ fn first_colour(pixels: &[u8], setting: u8) -> u8
     colour_under(setting, f)
 }
 
-// Building's tests in the order of its refusals, where classifying refuses nothing: the pixels are then as many as they
+// Building's tests in their order (rule 12.4), where classifying refuses nothing: the pixels are then as many as they
 // should be and their colours at most 19. The lent slices are given by their lengths.
 fn check_table(
     pixels: &[u8],
@@ -85,7 +85,7 @@ fn check_table(
     0
 }
 
-// All tests, those of classifying first. Nothing is written.
+// All tests, those of classifying first (rule 12.5). Nothing is written.
 fn check(
     pixels: &[u8],
     height: usize,
@@ -173,7 +173,7 @@ fn run_colours(
 }
 
 // The run of a picture of pixels: its colours, its table and the run's stack and outputs stand in the lent slices. Where
-// the call is refused, no slice is changed.
+// the call is refused, no slice is changed (rule 12.1).
 pub fn run_picture(
     pixels: &[u8],
     height: usize,

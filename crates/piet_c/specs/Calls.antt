@@ -1,4 +1,4 @@
--- What each call makes: the layers' own outcomes, by their numbers. Assumes nothing.
+-- What each call makes: the layers' own outcomes, by their numbers (rules 8.5, 12.2). Assumes nothing.
 use mathlib.Core.Path.{_≡_}
 use mathlib.Core.List.{List, _++_}
 use Prim.Native.Nat.{ℕ, _-_}
@@ -54,6 +54,6 @@ ForeverCall n rows exits k u = (r : Forever) × (always.numbered r ≡ k) × (al
 abbrev pub nine : Numbers → Numbers
 nine (numbers n values) = numbers n (values ++ replicate (9 - length values) 0)
 
--- nine values: the run's eight and the count of regions; or the place of an unknown pixel and zeros
+-- nine values: the run's eight and the count of regions (rule 8.5); or the place of an unknown pixel and zeros (rule 12.1)
 abbrev pub PictureCall : Asked → Lends → Numbers → Lends → Type 0
 PictureCall a l n l′ = (r : Pictured) × (nine (picturing.numbered r) ≡ n) × picturing.Outcome a l r l′

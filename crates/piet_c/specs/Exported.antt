@@ -1,4 +1,4 @@
--- What a call from C returns and leaves in its answer slice. Assumes nothing.
+-- What a call from C returns and leaves in its answer slice (rules 12.1, 12.8). Assumes nothing.
 use mathlib.Core.Path.{_≡_}
 use mathlib.Core.List.{List}
 use Prim.Native.Nat.{ℕ, _<_, _≤_}

@@ -1,4 +1,4 @@
--- What is printed of the bytes that were read. Assumes nothing.
+-- What is printed of the bytes that were read (rule 13.7). Assumes nothing.
 use mathlib.Core.Path.{_≡_}
 use mathlib.Core.Bool.{true, false}
 use mathlib.Core.List.{List}

@@ -1,5 +1,5 @@
 // The run program: a job on standard input, its answer on standard output. Where standard input can't be read it prints
-// nothing, since what came of the job is no job.
+// nothing, since what came of the job is no job (rule 13.7).
 ghost use mathlib.Core.Path.{_≡_};
 ghost use Prim.Native.Nat.{_≤_};
 ghost use lib.ListN.{length};

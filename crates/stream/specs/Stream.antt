@@ -1,4 +1,4 @@
--- What a call of read or write comes to, and when an input was read whole. Assumes nothing.
+-- What a call of read or write comes to, and when an input was read whole (rule 13.7). Assumes nothing.
 use mathlib.Core.Path.{_≡_}
 use mathlib.Core.Bool.{Bool, true, false, _||_}
 use mathlib.Core.List.{List}
