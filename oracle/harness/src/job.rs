@@ -8,7 +8,7 @@ pub enum Done {
     Ran(Judged),
 }
 
-/// The room that document 01 gives the run program.
+/// The room that the rules give the run program.
 const ROOM: Room = Room { stack: 256, outputs: 256 };
 const PIXELS: u32 = 512;
 const JOB: usize = 8_192;

@@ -1,5 +1,5 @@
-//! Asks the given Rust and puts its answers into the numbers of document 01. Nothing here decides
-//! what the Rust decides.
+//! Asks the given Rust and puts its answers into the numbers of the rules (docs/RULES.md). Nothing here
+//! decides what the Rust decides.
 pub mod job;
 #[cfg(feature = "archive")]
 pub mod library;

@@ -1,4 +1,4 @@
-//! The functions of the archive, on slices. Each returns document 01's number.
+//! The functions of the archive, on slices. Each returns 0 for done, or the refusal's number.
 
 #[link(name = "piet_c", kind = "static")]
 extern "C" {
@@ -63,6 +63,37 @@ extern "C" {
         abstract_mode: bool,
         input: *const u8,
         input_length: usize,
+        stack: *mut i64,
+        stack_length: usize,
+        kinds: *mut u8,
+        kinds_length: usize,
+        values: *mut i64,
+        values_length: usize,
+        answer: *mut u64,
+        answer_length: usize,
+    ) -> u32;
+    #[cfg(feature = "picture")]
+    fn piet_run_picture(
+        pixels: *const u8,
+        pixels_length: usize,
+        height: usize,
+        width: usize,
+        setting: u8,
+        codel: usize,
+        limit: u64,
+        abstract_mode: bool,
+        input: *const u8,
+        input_length: usize,
+        colours: *mut u8,
+        colours_length: usize,
+        map: *mut u32,
+        map_length: usize,
+        rows: *mut u32,
+        rows_length: usize,
+        exits: *mut u32,
+        exits_length: usize,
+        work: *mut u32,
+        work_length: usize,
         stack: *mut i64,
         stack_length: usize,
         kinds: *mut u8,
@@ -187,6 +218,59 @@ pub fn run(
             terms.is_abstract,
             terms.input.as_ptr(),
             terms.input.len(),
+            space.stack.as_mut_ptr(),
+            space.stack.len(),
+            space.kinds.as_mut_ptr(),
+            space.kinds.len(),
+            space.values.as_mut_ptr(),
+            space.values.len(),
+            answer.as_mut_ptr(),
+            answer.len(),
+        )
+    }
+}
+
+/// The slices that the whole run of a picture is lent, but for its answer.
+#[cfg(feature = "picture")]
+pub struct Whole {
+    pub colours: Vec<u8>,
+    pub table: Lent,
+    pub space: Space,
+}
+
+#[cfg(feature = "picture")]
+pub fn run_picture(
+    pixels: &[u8],
+    (height, width, codel): (usize, usize, usize),
+    setting: u8,
+    terms: &crate::machine::Terms,
+    lent: &mut Whole,
+    answer: &mut [u64],
+) -> u32 {
+    let Whole { colours, table, space } = lent;
+    // SAFETY: each pointer comes with the length of its slice
+    unsafe {
+        piet_run_picture(
+            pixels.as_ptr(),
+            pixels.len(),
+            height,
+            width,
+            setting,
+            codel,
+            terms.limit,
+            terms.is_abstract,
+            terms.input.as_ptr(),
+            terms.input.len(),
+            colours.as_mut_ptr(),
+            colours.len(),
+            table.map.as_mut_ptr(),
+            table.map.len(),
+            table.rows.as_mut_ptr(),
+            table.rows.len(),
+            table.exits.as_mut_ptr(),
+            table.exits.len(),
+            table.work.as_mut_ptr(),
+            table.work.len(),
             space.stack.as_mut_ptr(),
             space.stack.len(),
             space.kinds.as_mut_ptr(),

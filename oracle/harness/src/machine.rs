@@ -126,8 +126,8 @@ pub fn run(cfg: &CFG, terms: &Terms) -> Result<Answer, String> {
     state.map(|s| Answer::of(s, used))
 }
 
-/// A run in lent room. With a panic's text, the Rust panics in the next step where document 01
-/// chooses, and the answer is as before that step.
+/// A run in lent room. With a panic's text, the Rust panics in the next step where the rules choose,
+/// and the answer is as before that step.
 pub struct Judged {
     pub answer: Answer,
     pub panic: Option<String>,

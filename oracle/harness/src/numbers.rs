@@ -1,4 +1,4 @@
-//! Colours, instructions and pointer states of the Rust as the numbers of document 01.
+//! Colours, instructions and pointer states of the Rust as the numbers of the rules (docs/RULES.md).
 use crate::outside::caught;
 use image::Rgb;
 use parser::convert::{ConvertToLightness, UnknownPixelSettings, UnknownPixelSettings::*};

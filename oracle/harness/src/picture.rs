@@ -62,8 +62,8 @@ pub fn label(number: u8, at: Position) -> String {
     builder.open_explore(at).get_label().clone()
 }
 
-/// The graph of `CFGBuilder::build` as document 01's table; the regions that are no nodes come from
-/// its own `explore_region`.
+/// The graph of `CFGBuilder::build` as the rules' table; the regions that are no nodes come from its
+/// own `explore_region`.
 pub fn build(picture: &Picture) -> Built {
     let pixels = picture.lightnesses();
     let source = PietSource::new(&pixels, picture.height, picture.width);

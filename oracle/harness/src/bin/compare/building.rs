@@ -1,6 +1,6 @@
 //! Building: every small picture, pictures by chance, the largest ones, and what is refused.
 use crate::cases::{
-    bits, check, hex, over, pattern, relent, wide, without_lines, Case, Checked, Outcome,
+    bits, check, hex, over, pattern, relent, wide, without_lines, Case, Checked, Named, Outcome,
 };
 use harness::library::{self, Lent};
 use harness::picture::{build, Built, Picture};
@@ -9,20 +9,20 @@ use harness::random::Random;
 const SEED: u64 = 4;
 const BY_CHANCE: usize = 1_000_000;
 const LONGEST: u32 = 9;
-const FAR: [usize; 4] = [0, 1_025, (1 << 32) + 1, usize::MAX];
+pub const FAR: [usize; 4] = [0, 1_025, (1 << 32) + 1, usize::MAX];
 
 /// Red, light red, yellow, white, black.
 const FIVE: [u8; 5] = [6, 12, 7, 19, 18];
 
 #[derive(Clone)]
-struct Building {
-    height: usize,
-    width: usize,
-    codel: usize,
-    colours: Vec<u8>,
+pub struct Building {
+    pub height: usize,
+    pub width: usize,
+    pub codel: usize,
+    pub colours: Vec<u8>,
     /// lengths of map, rows, exits and work
-    lent: [usize; 4],
-    answer: usize,
+    pub lent: [usize; 4],
+    pub answer: usize,
 }
 
 pub fn compare() -> Checked {
@@ -44,7 +44,7 @@ fn over_five_colours((height, width): (usize, usize)) -> impl Iterator<Item = Bu
 }
 
 /// At the bounds of sides, codel width and codels.
-fn large() -> impl Iterator<Item = Building> {
+pub fn large() -> impl Iterator<Item = Building> {
     let shapes = [
         (1_024, 1_024, 4),
         (1_024, 1_024, 1_024),
@@ -93,7 +93,7 @@ fn spoil(case: &mut Building, random: &mut Random) {
     }
 }
 
-fn shorten(length: &mut usize, random: &mut Random) {
+pub fn shorten(length: &mut usize, random: &mut Random) {
     *length = length.saturating_sub(1 + random.below(4) as usize);
 }
 
@@ -111,7 +111,7 @@ fn spoil_first(colours: &mut [u8]) {
 
 impl Building {
     /// With so much more than the needed room, and one answer cell more.
-    fn roomy(
+    pub fn roomy(
         height: usize,
         width: usize,
         codel: usize,
@@ -132,14 +132,14 @@ impl Building {
     }
 
     /// The other case, with room that is short or ample by as much as here.
-    fn relent(&self, other: Self) -> Self {
+    pub fn relent(&self, other: Self) -> Self {
         let [needed, now] = [self.codels(), other.codels()].map(needed);
         let length = |i: usize| relent(self.lent[i], needed[i], now[i]);
         Building { lent: [0, 1, 2, 3].map(length), ..other }
     }
 
     /// The table, or the number and the place. Where the picture is one, the Rust judges it.
-    fn judged(&self) -> Result<Built, (u32, usize)> {
+    pub fn judged(&self) -> Result<Built, (u32, usize)> {
         let sides = 1..=1_024;
         if !sides.contains(&self.height) || !sides.contains(&self.width) {
             return Err((1, 0));
@@ -168,12 +168,12 @@ impl Building {
         }
     }
 
-    fn picture(&self) -> Picture {
+    pub fn picture(&self) -> Picture {
         let [height, width, codel] = [self.height, self.width, self.codel].map(|n| n as u32);
         Picture { height, width, codel, colours: self.colours.clone() }
     }
 
-    fn lent(&self) -> Lent {
+    pub fn lent(&self) -> Lent {
         let [map, rows, exits, work] = self.lent.map(pattern);
         Lent { map, rows, exits, work }
     }
@@ -185,7 +185,7 @@ fn needed(codels: usize) -> [usize; 4] {
 }
 
 /// What building leaves: the cells past the regions are 0 up to the needed room.
-fn write(built: &Built, lent: &mut Lent) {
+pub fn write(built: &Built, lent: &mut Lent) {
     let [_, rows, exits, work] = needed(built.map.len());
     lent.rows[..rows].fill(0);
     lent.exits[..exits].fill(0);
@@ -196,14 +196,18 @@ fn write(built: &Built, lent: &mut Lent) {
 }
 
 fn outcome(number: u32, answer: &[u64], lent: &Lent) -> Outcome {
-    Outcome(vec![
-        ("number", vec![number.into()]),
-        ("answer", bits(answer)),
+    let told = [("number", vec![number.into()]), ("answer", bits(answer))];
+    Outcome(told.into_iter().chain(cells(lent)).collect())
+}
+
+/// Every cell that building is lent.
+pub fn cells(lent: &Lent) -> [Named; 4] {
+    [
         ("map", wide(&lent.map)),
         ("rows", wide(&lent.rows)),
         ("exits", wide(&lent.exits)),
         ("work", wide(&lent.work)),
-    ])
+    ]
 }
 
 impl Building {

@@ -7,8 +7,8 @@ use std::time::{Duration, Instant};
 
 /// A case that both sides answer.
 pub trait Case: Sized {
-    /// What is expected, by the Rust or where it has no say by document 01, and what the archive
-    /// makes of it.
+    /// What is expected, by the Rust or where it has no say by the rules, and what the archive makes
+    /// of it.
     fn outcomes(&self) -> [Outcome; 2];
     /// The same case with a little less to it.
     fn smaller(&self) -> impl Iterator<Item = Self>;
@@ -19,14 +19,24 @@ pub trait Case: Sized {
     }
 }
 
-/// The number returned, the answer cells and every lent cell, each under its name.
+/// Cells under the name of their slice.
+pub type Named = (&'static str, Vec<i64>);
+
+/// The number returned, the answer cells and every lent cell.
 #[derive(Clone, PartialEq, Eq)]
-pub struct Outcome(pub Vec<(&'static str, Vec<i64>)>);
+pub struct Outcome(pub Vec<Named>);
 
 impl Outcome {
     pub fn list(&self, name: &str) -> &[i64] {
         let found = self.0.iter().find(|(n, _)| *n == name);
         &found.expect("a list of this name").1
+    }
+
+    /// The kind of a run: its status where it is not refused.
+    pub fn status_or_number(&self) -> String {
+        let number = self.list("number")[0];
+        let status = self.list("answer").first().filter(|_| number == 0);
+        status.map_or(format!("number {number}"), |status| format!("status {status}"))
     }
 }
 

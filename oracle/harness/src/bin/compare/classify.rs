@@ -12,13 +12,14 @@ const LONGEST: u32 = 9;
 const FAR: [usize; 4] = [0, 1_025, (1 << 32) + 1, usize::MAX];
 
 #[derive(Clone)]
-struct Classifying {
-    height: usize,
-    width: usize,
-    setting: u8,
-    pixels: Vec<u8>,
-    colours: usize,
-    answer: usize,
+pub struct Classifying {
+    pub height: usize,
+    pub width: usize,
+    pub setting: u8,
+    pub pixels: Vec<u8>,
+    /// lengths
+    pub colours: usize,
+    pub answer: usize,
 }
 
 pub fn compare() -> Checked {
@@ -54,7 +55,12 @@ fn by_chance(random: &mut Random, palette: &[[u8; 3]]) -> Classifying {
 
 /// One of the twenty, or one in so many times a neighbour of it.
 fn pixel(random: &mut Random, palette: &[[u8; 3]], strange: u32) -> [u8; 3] {
-    let mut pixel = random.pick(palette);
+    let known = random.pick(palette);
+    blurred(random, known, strange)
+}
+
+/// The pixel, or one in so many times a neighbour of it.
+pub fn blurred(random: &mut Random, mut pixel: [u8; 3], strange: u32) -> [u8; 3] {
     if strange > 0 && random.one_in(strange) {
         let byte = &mut pixel[random.below(3) as usize];
         *byte = byte.wrapping_add(random.pick(&[1, 255, 0x40]));
@@ -62,7 +68,7 @@ fn pixel(random: &mut Random, palette: &[[u8; 3]], strange: u32) -> [u8; 3] {
     pixel
 }
 
-fn spoil(case: &mut Classifying, random: &mut Random) {
+pub fn spoil(case: &mut Classifying, random: &mut Random) {
     match random.below(6) {
         0 => case.height = random.pick(&FAR),
         1 => case.width = random.pick(&FAR),
@@ -75,7 +81,7 @@ fn spoil(case: &mut Classifying, random: &mut Random) {
 
 impl Classifying {
     /// The number and the place.
-    fn judged(&self) -> (u32, [usize; 2]) {
+    pub fn judged(&self) -> (u32, [usize; 2]) {
         let sides = 1..=1_024;
         if !sides.contains(&self.height) || !sides.contains(&self.width) {
             return (1, [0, 0]);
@@ -93,7 +99,7 @@ impl Classifying {
         unknown.map_or((0, [0, 0]), |at| (5, [at / self.width, at % self.width]))
     }
 
-    fn classified(&self) -> impl Iterator<Item = Result<u8, String>> + '_ {
+    pub fn classified(&self) -> impl Iterator<Item = Result<u8, String>> + '_ {
         self.pixels.chunks(3).map(|p| classify([p[0], p[1], p[2]], self.setting))
     }
 }

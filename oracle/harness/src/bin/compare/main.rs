@@ -9,6 +9,8 @@ mod classify;
 mod forever;
 #[cfg(feature = "label")]
 mod label;
+#[cfg(feature = "picture")]
+mod picturing;
 #[cfg(feature = "run")]
 mod running;
 #[cfg(any(feature = "forever", feature = "run"))]
@@ -17,7 +19,7 @@ mod tables;
 use cases::Checked;
 use std::process::ExitCode;
 
-/// The parts that this program was built for.
+/// The parts that this program was built for; the arguments name those that are asked.
 const PARTS: &[(&str, fn() -> Checked)] = &[
     #[cfg(feature = "classify")]
     ("classify", classify::compare),
@@ -29,10 +31,13 @@ const PARTS: &[(&str, fn() -> Checked)] = &[
     ("forever", forever::compare),
     #[cfg(feature = "run")]
     ("run", running::compare),
+    #[cfg(feature = "picture")]
+    ("picture", picturing::compare),
 ];
 
 fn main() -> ExitCode {
-    for (name, compare) in PARTS {
+    let asked: Vec<String> = std::env::args().skip(1).collect();
+    for (name, compare) in PARTS.iter().filter(|(name, _)| asked.iter().any(|a| a == name)) {
         match compare() {
             Ok(counts) => println!("{name}: no difference in {counts}"),
             Err(text) => {

@@ -1,5 +1,5 @@
 //! The run: by chance, in lent room by chance, and what is refused.
-use crate::cases::{bits, check, hex, over, pattern, wide, Case, Checked, Outcome};
+use crate::cases::{bits, check, hex, over, pattern, wide, Case, Checked, Named, Outcome};
 use crate::tables::{shown_picture, smaller_pictures, Spoil};
 use harness::library::{self, Space};
 use harness::machine::{Answer, Judged, Output, Room, Terms};
@@ -16,10 +16,12 @@ const LONGEST: u32 = 8;
 struct Running {
     question: Question,
     spoil: Spoil,
-    /// by how much kinds and values are longer than the room for outputs; one of them is not
-    longer: [usize; 2],
+    longer: Longer,
     answer: usize,
 }
+
+/// By how much kinds and values are longer than the room for outputs; one of them is not.
+pub type Longer = [usize; 2];
 
 pub fn compare() -> Checked {
     let mut random = Random::seeded(SEED);
@@ -27,17 +29,27 @@ pub fn compare() -> Checked {
 }
 
 fn by_chance(random: &mut Random) -> Running {
-    let question = Question {
-        picture: picture(random),
+    let picture = picture(random);
+    let question = question(random, picture);
+    let spoil = if random.one_in(16) { Spoil::by_chance(random) } else { Spoil::None };
+    let longer = longer(random);
+    let answer = if random.one_in(64) { random.below(8) } else { 8 + random.below(3) };
+    Running { question, spoil, longer, answer: answer as usize }
+}
+
+/// A run of this picture, on terms and in room by chance.
+pub fn question(random: &mut Random, picture: Picture) -> Question {
+    Question {
+        picture,
         limit: limit(random),
         is_abstract: random.one_in(8),
         room: room(random),
         input: random.input(),
-    };
-    let spoil = if random.one_in(16) { Spoil::by_chance(random) } else { Spoil::None };
-    let longer = random.pick(&[[0, 0], [2, 0], [0, 3]]);
-    let answer = if random.one_in(64) { random.below(8) } else { 8 + random.below(3) };
-    Running { question, spoil, longer, answer: answer as usize }
+    }
+}
+
+pub fn longer(random: &mut Random) -> Longer {
+    random.pick(&[[0, 0], [2, 0], [0, 3]])
 }
 
 /// Mostly small: a run that goes round has gone round by then.
@@ -47,7 +59,7 @@ fn limit(random: &mut Random) -> u64 {
 }
 
 /// Of any kind, or one that runs a program.
-fn picture(random: &mut Random) -> Picture {
+pub fn picture(random: &mut Random) -> Picture {
     match random.below(3) {
         0 => entered(random.picture(LONGEST)),
         1 => row(&random.program()),
@@ -67,16 +79,13 @@ fn room(random: &mut Random) -> Room {
     Room { stack: random.below(most) as usize, outputs: random.below(most) as usize }
 }
 
-impl Running {
-    fn space(&self) -> Space {
-        let [kinds, values] = self.longer.map(|more| self.question.room.outputs + more);
-        let stack = pattern(self.question.room.stack);
-        Space { stack, kinds: pattern(kinds), values: pattern(values) }
-    }
+pub fn space(room: &Room, longer: Longer) -> Space {
+    let [kinds, values] = longer.map(|more| room.outputs + more);
+    Space { stack: pattern(room.stack), kinds: pattern(kinds), values: pattern(values) }
 }
 
 /// What a run leaves: every cell past the depth or the outputs is 0.
-fn write(a: &Answer, space: &mut Space) {
+pub fn write(a: &Answer, space: &mut Space) {
     let bottom_first: Vec<i64> = a.stack.iter().rev().copied().collect();
     let (kinds, values): (Vec<u8>, Vec<i64>) = a.outputs.iter().map(kind_and_value).unzip();
     space.stack.fill(0);
@@ -94,23 +103,27 @@ fn kind_and_value(output: &Output) -> (u8, i64) {
     }
 }
 
-fn cells(region: usize, a: &Answer) -> [u64; 8] {
+pub fn told(region: usize, a: &Answer) -> [u64; 8] {
     let (region, used) = (region as u64, a.used as u64);
     let (depth, outputs) = (a.stack.len() as u64, a.outputs.len() as u64);
     [a.status as u64, a.steps, region, a.dp as u64, a.cc as u64, depth, outputs, used]
 }
 
 fn outcome(number: u32, answer: &[u64], space: &Space) -> Outcome {
-    Outcome(vec![
-        ("number", vec![number.into()]),
-        ("answer", bits(answer)),
-        ("stack", wide(&space.stack)),
-        ("kinds", wide(&space.kinds)),
-        ("values", wide(&space.values)),
-    ])
+    let told = [("number", vec![number.into()]), ("answer", bits(answer))];
+    Outcome(told.into_iter().chain(cells(space)).collect())
+}
+
+/// Every cell that a run is lent.
+pub fn cells(space: &Space) -> [Named; 3] {
+    [("stack", wide(&space.stack)), ("kinds", wide(&space.kinds)), ("values", wide(&space.values))]
 }
 
 impl Running {
+    fn space(&self) -> Space {
+        space(&self.question.room, self.longer)
+    }
+
     fn expected(&self, built: &Built, ran: &Answer) -> Outcome {
         let (mut space, mut answer) = (self.space(), pattern(self.answer));
         if answer.len() < 8 {
@@ -120,7 +133,7 @@ impl Running {
             over(&[0; 8], &mut answer);
             return outcome(10, &answer, &space);
         }
-        over(&cells(built.region(&ran.label), ran), &mut answer);
+        over(&told(built.region(&ran.label), ran), &mut answer);
         write(ran, &mut space);
         outcome(0, &answer, &space)
     }
@@ -135,7 +148,7 @@ impl Running {
 }
 
 impl Case for Running {
-    /// Where the Rust panics and document 01 chooses, the run is asked up to there only.
+    /// Where the Rust panics and the rules choose, the run is asked up to there only.
     fn outcomes(&self) -> [Outcome; 2] {
         let built = build(&self.question.picture);
         let Judged { answer, panic } = self.question.judged(&built);
@@ -144,28 +157,34 @@ impl Case for Running {
     }
 
     fn kind(expected: &Outcome) -> String {
-        let number = expected.list("number")[0];
-        let status = expected.list("answer").first().filter(|_| number == 0);
-        status.map_or(format!("number {number}"), |status| format!("status {status}"))
+        expected.status_or_number()
     }
 
     fn smaller(&self) -> impl Iterator<Item = Self> {
         let question = &self.question;
         let pictures = smaller_pictures(&question.picture).filter(|p| p.colours[0] != 19);
         let lesser = pictures.map(|picture| Question { picture, ..question.clone() });
-        let sooner = question.limit.checked_sub(1).into_iter();
-        let sooner = sooner.map(|limit| Question { limit, ..question.clone() });
-        let rest = question.input.split_first().map(|(_, rest)| rest.to_vec()).into_iter();
-        let shorter = rest.map(|input| Question { input, ..question.clone() });
-        let all = lesser.chain(sooner).chain(shorter);
+        let all = lesser.chain(sooner(question));
         all.map(|question| Running { question, ..self.clone() })
     }
 
     fn shown(&self) -> String {
-        let Question { picture, limit, is_abstract, room, input } = &self.question;
-        let (mode, input) = (*is_abstract as u8, hex(input));
-        let (picture, Room { stack, outputs }) = (shown_picture(picture), room);
-        let Running { spoil, longer, answer, .. } = self;
-        format!("{picture} limit {limit} mode {mode} input {input} stack {stack} outputs {outputs} longer {longer:?} spoil {spoil:?} answer {answer}")
+        let Running { question, spoil, longer, answer } = self;
+        let (picture, terms) = (shown_picture(&question.picture), shown_terms(question));
+        format!("{picture} {terms} longer {longer:?} spoil {spoil:?} answer {answer}")
     }
+}
+
+/// The question with one step or one byte of input less.
+pub fn sooner(question: &Question) -> impl Iterator<Item = Question> + '_ {
+    let sooner = question.limit.checked_sub(1).into_iter();
+    let sooner = sooner.map(|limit| Question { limit, ..question.clone() });
+    let rest = question.input.split_first().map(|(_, rest)| rest.to_vec()).into_iter();
+    sooner.chain(rest.map(|input| Question { input, ..question.clone() }))
+}
+
+pub fn shown_terms(question: &Question) -> String {
+    let Question { limit, is_abstract, room: Room { stack, outputs }, input, .. } = question;
+    let (mode, input) = (*is_abstract as u8, hex(input));
+    format!("limit {limit} mode {mode} input {input} stack {stack} outputs {outputs}")
 }

@@ -1,5 +1,5 @@
-//! The fields of a question. Numbers are held to document 01's bounds: beyond them it refuses, and
-//! the Rust does not.
+//! The fields of a question. Numbers are held to the bounds of the rules: beyond them the library
+//! refuses, and the Rust does not.
 use harness::outside::LONGEST_INPUT;
 use harness::picture::Picture;
 use std::fmt::Display;

@@ -43,7 +43,7 @@ fn program(program: &[Op], more: usize, input: &[u8]) -> Question {
     question(row(program), program.len() + more, input)
 }
 
-/// The runs that document 01 names, and around their limits.
+/// The runs that the rules name, and around their limits.
 fn document() -> Vec<Question> {
     let pictures: [&[&str]; 8] =
         [&["Rr"], &["r."], &["r.r"], &["r..", "#.."], &["#r"], &["r"], &["#"], &["r#", ".r"]];

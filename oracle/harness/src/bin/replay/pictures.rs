@@ -24,7 +24,7 @@ pub fn pictures() -> Vec<Picture> {
     all
 }
 
-/// Those that document 01 names.
+/// Those that the rules name.
 fn document() -> Vec<Picture> {
     let drawings: [&[&str]; 7] =
         [&["Rr"], &["r."], &["r.r"], &["r..", "#.."], &["#r"], &["."], &["r#", ".r"]];
@@ -99,8 +99,8 @@ fn slides() -> Vec<Picture> {
     drawings.map(|lines| drawn(1, lines)).into()
 }
 
-/// The smallest pictures on which docs/DIFFERENCES.md has the slide of the page end otherwise: at an eighth turn, and
-/// with another attempt after one that is lost.
+/// Two pictures of docs/DIFFERENCES.md on which the slide of the page ends otherwise: the smallest with an eighth turn in
+/// an exit of a red region 0, and one with another attempt after a slide that is lost.
 fn apart_from_the_page() -> [Picture; 2] {
     let eighth = ["r.#", "r..", "#..", "#.#", "..r"];
     let next = ["r..", "b#."];

@@ -54,7 +54,7 @@ fn refused(number: u32) -> String {
     format!("refused {number}\n")
 }
 
-/// The number of a job that is refused before the Rust is reached: this is document 01's alone.
+/// The number of a job that is refused before the Rust is reached: this is the rules' alone.
 fn refusal(bytes: &[u8]) -> u32 {
     let Some(job) = opened(bytes) else {
         return 11;
@@ -97,7 +97,7 @@ fn record(kind: u16, body: &[u8]) -> Vec<u8> {
     [&(body.len() as u32).to_le_bytes()[..], &kind.to_le_bytes(), body].concat()
 }
 
-/// Those that the Rust answers or document 01 refuses.
+/// Those that the Rust answers or the rules refuse.
 fn all() -> Vec<Vec<u8>> {
     let palette = palette();
     let of_question = |q: &Question| written(&asked(q, &palette));
@@ -130,7 +130,7 @@ fn full() -> Vec<Question> {
     [pushing, writing].iter().flat_map(|p| [1_000, 2_000].map(|limit| question(p, limit))).collect()
 }
 
-/// The example of document 01.
+/// The example of the rules.
 fn example() -> Job {
     let pixels = vec![0xFF, 0xC0, 0xC0, 0xFF, 0, 0];
     Job { sides: [1, 2, 1], pixels, limit: 3, mode: 0, input: vec![] }
