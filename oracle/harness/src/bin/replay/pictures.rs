@@ -99,12 +99,21 @@ fn slides() -> Vec<Picture> {
     drawings.map(|lines| drawn(1, lines)).into()
 }
 
-/// Two pictures of docs/DIFFERENCES.md on which the slide of the page ends otherwise: the smallest with an eighth turn in
-/// an exit of a red region 0, and one with another attempt after a slide that is lost.
-fn apart_from_the_page() -> [Picture; 2] {
-    let eighth = ["r.#", "r..", "#..", "#.#", "..r"];
-    let next = ["r..", "b#."];
-    [drawn(1, &eighth), drawn(1, &next)]
+/// The pictures of docs/DIFFERENCES.md on which the slide of the page ends otherwise: those with an eighth turn, in a run
+/// or in an exit alone, and those with another attempt after a slide that is lost.
+fn apart_from_the_page() -> Vec<Picture> {
+    let drawings: [&[&str]; 9] = [
+        &["r.#", "r..", "#..", "#.#", "..r"],
+        &["r..", "b#."],
+        &["r.##", "#..r", "...#", "##.#"],
+        &["rr#r", "#...", "...#", "r#.r"],
+        &["r.##", "#...", "..r#"],
+        &["#r..", "...#", ".#.r"],
+        &["###", ".#.", "...", "r.#", "#.r"],
+        &["r..", ".#."],
+        &["#.", "r#"],
+    ];
+    drawings.map(|lines| drawn(1, lines)).into()
 }
 
 /// A white path with so many turns to the right, between black walls, to a yellow codel; entered to
