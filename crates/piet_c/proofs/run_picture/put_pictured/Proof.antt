@@ -43,7 +43,7 @@ returns c =
     let o = w .before in
     let the-r = o .before .before .before .r in
     let s = o .before .before .before .before .before .before in
-    rw (the-r .given .1) (refl, regions-put (s .args .answer .now) (resultOf (the-r .given .0 .0)) _ (s .pre) (o .of-ended .ensures) (w .put-eight .ensures))
+    rw (the-r .given .1) (refl, regions-put (s .args .answer .now) (resultOf (the-r .given .0 .0)) (the-r .given .0 .1 .0) (s .pre) (o .of-ended .ensures) (w .put-eight .ensures))
 
 same-length-2 : tie.Need-same-length-2
 same-length-2 c =
@@ -56,7 +56,7 @@ returns-2 c =
     let o = w .before .before .before .before .before in
     let the-r = o .before .before .before .r2 in
     let s = o .before .before .before .before .before .before in
-    rw (the-r .given .1) (refl, place-put (s .args .answer .now) _ _ (s .pre) (o .of-refused .ensures) (w .before .before .before .before .put-eight2 .ensures) (w .put-two .ensures))
+    rw (the-r .given .1) (refl, place-put (s .args .answer .now) (the-r .given .0 .1 .0) (the-r .given .0 .1 .1 .0) (s .pre) (o .of-refused .ensures) (w .before .before .before .before .put-eight2 .ensures) (w .put-two .ensures))
 
 pub put-pictured-spec : {M : Type 1} → statement M
 put-pictured-spec =
