@@ -2,8 +2,8 @@
 use crate::error::{allocated, reserved};
 use crate::numbers::proved;
 use crate::{
-    run_picture, Ended, Error, Output, Picture, PictureRoom, RunRoom, Shape, Table, TableRoom, Terms, EXITS,
-    ROW,
+    run_picture, Ended, Error, Output, Picture, PictureRoom, Region, RunRoom, Shape, Table, TableRoom, Terms,
+    EXITS, ROW,
 };
 use std::fmt;
 
@@ -23,8 +23,8 @@ pub struct Told {
     pub ended: Ended,
     /// The count of the picture's regions.
     pub regions: usize,
-    /// The label of the region that the run stands in.
-    pub label: String,
+    /// The region that the run stands in; [`Region::label`] names it.
+    pub region: Region,
     /// The stack; the top is last.
     pub stack: Vec<i64>,
     /// The outputs in order.
@@ -75,10 +75,10 @@ pub fn run_pixels(picture: Picture, terms: Terms, cells: Cells) -> Result<Told, 
     let pictured = run_picture(picture, terms, owned.lent())?;
     let Owned { rows, exits, mut stack, kinds, values, .. } = owned;
     let (ended, regions) = (pictured.ended, pictured.regions);
-    let stands_in = proved(Table { regions, rows: &rows, exits: &exits }.region(ended.region));
+    let region = proved(Table { regions, rows: &rows, exits: &exits }.region(ended.region));
     stack.truncate(ended.depth);
     let outputs = outputs_of(&kinds, &values, ended.outputs)?;
-    Ok(Told { ended, regions, label: stands_in.label()?, stack, outputs })
+    Ok(Told { ended, regions, region, stack, outputs })
 }
 
 fn outputs_of(kinds: &[u8], values: &[i64], count: usize) -> Result<Vec<Output>, Error> {
@@ -92,7 +92,8 @@ impl fmt::Display for Told {
     fn fmt(&self, f: &mut fmt::Formatter<'_>) -> fmt::Result {
         let Ended { status, steps, pointers, .. } = self.ended;
         writeln!(f, "status {}\nsteps {steps}", status.number())?;
-        writeln!(f, "at {} {} {}", self.label, pointers.dp.number(), pointers.cc.number())?;
+        let label = self.region.label().map_err(|_| fmt::Error)?;
+        writeln!(f, "at {label} {} {}", pointers.dp.number(), pointers.cc.number())?;
         write!(f, "stack {}", self.stack.len())?;
         self.stack.iter().rev().try_for_each(|value| write!(f, " {value}"))?;
         write!(f, "\nout {}", self.outputs.len())?;

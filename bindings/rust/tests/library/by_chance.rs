@@ -164,5 +164,5 @@ fn told_is((Pictured { ended, regions }, told): (Pictured, piet::Told), slices: 
         outputs.map(|(&kind, &value)| Output::of(kind, value).unwrap()).collect::<Vec<_>>()
     );
     let region = slices.table(regions).region(ended.region).unwrap();
-    assert_eq!(Ok(told.label), region.label());
+    assert_eq!(told.region, region);
 }

@@ -31,7 +31,7 @@ fn every_status() {
     assert_eq!(echo(ECHO_TERMS, Cells { outputs: 1, ..CELLS }), (Status::OutputFull, 3));
     assert_eq!(echo(Terms { input: b"\xFF", ..ECHO_TERMS }, CELLS), (Status::BadInput, 0));
     let told = run_pixels(Picture::of(&pixel(Colour::Red), row_of(1)), TERMS, CELLS).unwrap();
-    assert_eq!((told.ended.status, told.label.as_str()), (Status::Completed, "Entry"));
+    assert_eq!((told.ended.status, told.region.label()), (Status::Completed, Ok("Entry".into())));
 }
 
 #[test]

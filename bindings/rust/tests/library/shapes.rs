@@ -21,7 +21,7 @@ fn accepted() {
         assert_eq!((shape.pixels(), shape.codels()), (pixels, codels), "{shape:?}");
         let red = pixel(Colour::Red).repeat(pixels);
         let told = run_pixels(Picture::of(&red, shape), TERMS, CELLS).unwrap();
-        assert_eq!((told.regions, told.label.as_str()), (1, "Entry"));
+        assert_eq!((told.regions, told.region.label()), (1, Ok("Entry".into())));
     }
 }
 
