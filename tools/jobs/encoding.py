@@ -12,7 +12,7 @@ LONGEST_JOB = 8192
 MOST_PIXELS = 512
 MODES = ["run", "abstract"]
 SIDES = f"a side has 1 to {LONGEST_SIDE}"
-CODELS = f"it is 1 to {WIDEST_CODEL}"
+CODELS = f"it has to be 1 to {WIDEST_CODEL}"
 
 
 @dataclass(frozen=True)

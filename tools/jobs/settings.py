@@ -5,7 +5,7 @@ from .encoding import CODELS, MODES
 from .files import Wrong, cut, quoted
 
 NAMES = ["codel", "limit", "mode", "input", "input-hex"]
-RANGES = {"codel": CODELS, "limit": "it is below 2^64", "shrink": "it is 1 to 65535"}
+RANGES = {"codel": CODELS, "limit": "it has to be below 2^64", "shrink": "it has to be 1 to 65535"}
 ESCAPES = {"n": b"\n", "t": b"\t", "r": b"\r", "0": b"\0", "\\": b"\\", '"': b'"'}
 KNOWN_ESCAPES = '\\n \\t \\r \\0 \\\\ \\" and \\xHH are known'
 

@@ -24,7 +24,7 @@ pub record Move : Type 0 where
 
 module _ (p : Picture) (map : List ℕ) (g : Given) (room : RunRoom) where
   -- what the instruction of a move from region r comes to: it is executed with the size of the block just left
-  -- (rule 8.3), and kept where there is room (rule 11.7)
+  -- (rule 8.3), and kept where there is room (rules 11.4 to 11.7)
   abbrev pub doing : ℕ → PointerState → ℕ → Store → Out
   doing r u i m = fitting room (exec g (tally r (codels p) map) (opNumbered i) (withPointers u m))
 
