@@ -3,16 +3,19 @@
 --     decimal-length                                how many there are at most
 --     decimal-value, decimal-some, decimal-lead     they have the number as their value, there is one, and the first is
 --                                                   not `0` but for the number 0
+--     decimal-numeral                               and all of them are digits
 -- Assumes nothing.
 use mathlib.Core.Path.{_≡_, _∙_, sym, refl}
+use mathlib.Core.Bool.{true}
 use mathlib.Core.List.{List, [], _∷_, _++_}
 use Prim.Native.Nat.{ℕ, zero, suc, _+_, _*_, _-_, _/_, _%_, _^_, _<_, _≤_}
 use native.Mathlib.Omega.{arith}
 use native.Mathlib.Nat.{pow-suc, div-lt-iff-lt-mul}
 use borrow.Author.Tests.{lt-ltb, le-ltb}
 use lib.ListN.{length, getD, length-append, List·getD-append}
-use Rattle.base.specs.Text.{digits, decimal, valueAfter}
-use Rattle.base.proofs.Tests.{by-size}
+use Rattle.base.specs.Text.{digits, decimal, digit, allDigits, numeral, valueAfter}
+use Rattle.base.proofs.Tests.{by-size, and-both}
+use Rattle.base.proofs.Digits.{digit-in, is-numeral}
 
 small : (f n : ℕ) → n < 10 → digits f n ≡ (48 + n) ∷ []
 unfolding digits
@@ -92,3 +95,25 @@ decimal-some n = digits-some n n
 pub decimal-lead : (n : ℕ) → 0 < n → 48 < getD (decimal n) 0 0
 unfolding decimal
 decimal-lead n p = digits-lead n n (omega arith) p
+
+all-append : (a b : List ℕ) → allDigits a ≡ true → allDigits b ≡ true → allDigits (a ++ b) ≡ true
+unfolding allDigits
+all-append [] b e f = f
+all-append (d ∷ a) b e f =
+    let p = and-both (digit d) (allDigits a) e in
+    rw (p .0) (all-append a b (p .1) f)
+
+one-digit : (n : ℕ) → n < 10 → allDigits ((48 + n) ∷ []) ≡ true
+unfolding allDigits
+one-digit n h = rw (digit-in (48 + n) (omega arith) (omega arith))
+
+all-digits : (f n : ℕ) → n ≤ f → allDigits (digits f n) ≡ true
+unfolding digits
+all-digits zero n h = one-digit n (omega arith)
+all-digits (suc f) n h =
+    by-size n 10 (λ l. rw (lt-ltb n 10 l) (one-digit n l))
+    (λ l. rw (le-ltb n 10 l) (all-append (digits f (n / 10)) _ (all-digits f (n / 10) (omega arith)) (one-digit (n % 10) (omega arith))))
+
+pub decimal-numeral : (n : ℕ) → numeral (decimal n) ≡ true
+unfolding decimal
+decimal-numeral n = is-numeral (digits n n) (digits-some n n) (all-digits n n (omega arith))

@@ -7,4 +7,5 @@ pub mod Sides
 pub mod Table
 pub mod Over
 pub mod LentLaws
+pub mod Digits
 pub mod Decimal

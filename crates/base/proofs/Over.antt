@@ -7,7 +7,7 @@ use native.Mathlib.Numerals.{add-one}
 use native.Mathlib.Omega.{arith}
 use lib.ListN.{length, take, drop, set, length-append, length-take, length-drop, replicate, length-replicate, replicate-append-replicate, take-append-drop}
 use lib.Seq.{take-at, drop-append-add, drop-drop, set-split, append-snoc, paste, take-length}
-use Rattle.base.specs.Lent.{over, lent, filled, Put}
+use Rattle.base.specs.Lent.{over, lent, filled, Room, Put}
 
 module _ {A : Type 0} where
   pub over-length : (d : List A) (at : ℕ) (w : List A) → at + length w ≤ length d → length (over d at w) ≡ length d
@@ -85,3 +85,18 @@ put-put {d} {d′} {d″} {v} {w} {at} {r} {s} h p q =
 
 pub put-length : {d d′ w : List ℕ} {at r : ℕ} → at + length w ≤ length d → Put d at w r d′ → length d′ ≡ length d
 put-length {d} {w = w} {at = at} h p = ap length (p .list) ∙ over-length d at w h
+
+-- words that are written one after another: room for each, and what both write
+pub room-front : {d : List ℕ} {at : ℕ} (v w : List ℕ) → Room d at (v ++ w) → Room d at v
+room-front v w h = let e = h .enough in let l = length-append v w in record { enough = omega arith }
+
+pub room-back : {d d′ : List ℕ} {at r : ℕ} (v w : List ℕ) → Room d at (v ++ w) → Put d at v r d′ → Room d′ r w
+room-back v w h p =
+    let e = h .enough in
+    let l = length-append v w in
+    let n = p .next in
+    let f = room-front v w h .enough in
+    record { enough = omega (arith, put-length f p) }
+
+pub put-then : {d d′ d″ v w : List ℕ} {at r s : ℕ} → Room d at (v ++ w) → Put d at v r d′ → Put d′ r w s d″ → Put d at (v ++ w) s d″
+put-then {v = v} {w = w} h p q = put-put (room-front v w h .enough) p q

@@ -2,7 +2,7 @@
 use mathlib.Core.Path.{_≡_, refl, sym}
 use native.Mathlib.Omega.{arith}
 use mathlib.Core.Bool.{Bool, true, false}
-use mathlib.Core.List.{List, _∷_}
+use mathlib.Core.List.{List, [], _∷_}
 use Prim.Native.Nat.{ℕ, suc}
 use Rattle.base.specs.Numbers.{Numbers, numbers, Row, row, first}
 
@@ -16,3 +16,8 @@ pub passed : (b : Bool) (n : ℕ) (u v : List ℕ) (rows : List Row) (last : Num
 unfolding first
 passed true n u v rows last e = absurd (refused n u v (sym e))
 passed false n u v rows last e = (refl, e)
+
+-- where no row is left, the last answer is given
+pub no-row : (last : Numbers) → first [] last ≡ last
+unfolding first
+no-row last = refl

@@ -1,10 +1,10 @@
 -- Text as bytes. Assumes nothing.
-use mathlib.Core.Bool.{cond}
+use mathlib.Core.Bool.{Bool, true, false, _&&_, cond}
 use mathlib.Core.List.{List, [], _∷_, _++_}
 use Prim.Native.Nat.{ℕ, zero, suc, _+_, _*_, _-_, _/_, _%_}
 use Prim.Native.Char.{code}
 use Prim.Native.String.{String, [] as empty, _∷_ as _then_}
-use lib.Dec.{ltb}
+use lib.Dec.{leb, ltb}
 
 -- the bytes of an ASCII text
 abbrev pub ascii : String → List ℕ
@@ -18,6 +18,19 @@ digits (suc steps) n = cond (ltb n 10) ((48 + n) ∷ []) (digits steps (n / 10) 
 
 unfoldable pub decimal : ℕ → List ℕ
 decimal n = digits n n
+
+-- a byte is an ASCII digit, `0` to `9`
+unfoldable pub digit : ℕ → Bool
+digit b = leb 0x30 b && leb b 0x39
+
+unfoldable pub allDigits : List ℕ → Bool
+allDigits [] = true
+allDigits (b ∷ bs) = digit b && allDigits bs
+
+-- a numeral: digits, at least one
+unfoldable pub numeral : List ℕ → Bool
+numeral [] = false
+numeral (b ∷ bs) = allDigits (b ∷ bs)
 
 -- the value of ASCII digits that stand after a number n; `decimal n` has the value n (proofs/Decimal.antt)
 unfoldable pub valueAfter : ℕ → List ℕ → ℕ

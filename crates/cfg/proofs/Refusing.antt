@@ -16,7 +16,7 @@ use lib.ListN.{length, getD, take, drop, drop-of-length-le, take-append-drop, le
 use lib.Seq.{drop-cons, length-take-le, take-at, drop-at}
 use Rattle.base.specs.Numbers.{Numbers, numbers, first}
 use Rattle.base.specs.Limits.{wrongSide}
-use Rattle.base.proofs.Refusals.{passed}
+use Rattle.base.proofs.Refusals.{passed, no-row}
 use Rattle.base.proofs.Tests.{neither}
 use Rattle.base.proofs.Sides.{side}
 use Rattle.cfg.specs.declared.building.Built.{Built}
@@ -214,10 +214,6 @@ module _ (p : Picture) (m r e w : ℕ) where
                 on-none l = rw (h, b, k, le-ltb 65536 (codels p) few, eq-eqb _ _ bytes, le-ltb _ _ legal, ne-eqb _ _ entry, l)
 
 -- the answer 0 is the last one
-no-row : (last : Numbers) → first [] last ≡ last
-unfolding first
-no-row last = refl
-
 pub none-refused : (p : Picture) (m r e w : ℕ) (v : List ℕ) → numbers 0 v ≡ refusal p m r e w → refusal p m r e w ≡ numbers 0 (0 ∷ 0 ∷ [])
 unfolding refusal refusals
 none-refused p m r e w v h =

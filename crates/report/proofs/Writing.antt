@@ -10,21 +10,6 @@ use Rattle.base.proofs.Over.{put-put, put-length, over-none}
 use Rattle.report.specs.Text.{newline}
 use Rattle.report.specs.Wrote.{Wrote}
 
--- a word and then another
-pub room-front : {d : List ℕ} {at : ℕ} (v w : List ℕ) → Room d at (v ++ w) → Room d at v
-room-front v w h = let e = h .enough in let l = length-append v w in record { enough = omega arith }
-
-pub room-back : {d d′ : List ℕ} {at r : ℕ} (v w : List ℕ) → Room d at (v ++ w) → Put d at v r d′ → Room d′ r w
-room-back v w h p =
-    let e = h .enough in
-    let l = length-append v w in
-    let n = p .next in
-    let f = room-front v w h .enough in
-    record { enough = omega (arith, put-length f p) }
-
-pub put-then : {d d′ d″ v w : List ℕ} {at r s : ℕ} → Room d at (v ++ w) → Put d at v r d′ → Put d′ r w s d″ → Put d at (v ++ w) s d″
-put-then {v = v} {w = w} h p q = put-put (room-front v w h .enough) p q
-
 pub put-none : (d : List ℕ) (at : ℕ) → Put d at [] at d
 put-none d at = record { next = sym (add-zero at); list = over-none d at }
 

@@ -3,12 +3,12 @@ use mathlib.Core.Path.{_≡_, refl}
 use mathlib.Core.Bool.{true, false}
 use mathlib.Core.List.{[], _∷_}
 use lib.IntN.{pos, negsuc}
-use Rattle.base.specs.Text.{ascii, valueAfter}
+use Rattle.base.specs.Text.{ascii, digit, allDigits, numeral, valueAfter}
 use Rattle.text.specs.Line.{lineLength}
 use Rattle.text.specs.Range.{within}
 use Rattle.text.specs.Utf8.{scalar, scalars, encode, encodes}
 use Rattle.text.specs.White.{whiteSpace, trimStart}
-use Rattle.text.specs.Number.{digits, numeral, magnitudeOf, sign, parsed}
+use Rattle.text.specs.Number.{magnitudeOf, sign, parsed}
 use Rattle.text.specs.Input.{charOf, intOf, pushOrSkip}
 use Rattle.text.specs.Reading.{back, rest, chars, same, valid, takeOf}
 use Rattle.text.specs.declared.input.Taken.the-variants.{Push, Skip, BadInput}
@@ -48,42 +48,42 @@ none = refl
 
 -- U+3000, `-12`, a carriage return, a newline
 int : intOf (0x3000 ∷ 0x2D ∷ 0x31 ∷ 0x32 ∷ 13 ∷ 10 ∷ []) ≡ Value (negsuc 11)
-unfolding encode encodes whiteSpace within trimStart digits numeral valueAfter magnitudeOf sign parsed
+unfolding encode encodes whiteSpace within trimStart digit allDigits numeral valueAfter magnitudeOf sign parsed
 int = refl
 
 -- signs and zeros
 plus-five : parsed (ascii "+5") ≡ Value (pos 5)
-unfolding within digits numeral valueAfter magnitudeOf sign parsed
+unfolding within digit allDigits numeral valueAfter magnitudeOf sign parsed
 plus-five = refl
 
 minus-zero : parsed (ascii "-0") ≡ Value (pos 0)
-unfolding within digits numeral valueAfter magnitudeOf sign parsed
+unfolding within digit allDigits numeral valueAfter magnitudeOf sign parsed
 minus-zero = refl
 
 zeros : parsed (ascii "007") ≡ Value (pos 7)
-unfolding within digits numeral valueAfter magnitudeOf sign parsed
+unfolding within digit allDigits numeral valueAfter magnitudeOf sign parsed
 zeros = refl
 
 alone : parsed (ascii "+") ≡ NotANumber
-unfolding within digits numeral valueAfter magnitudeOf sign parsed
+unfolding within digit allDigits numeral valueAfter magnitudeOf sign parsed
 alone = refl
 
 twice : parsed (ascii "--1") ≡ NotANumber
-unfolding within digits numeral valueAfter magnitudeOf sign parsed
+unfolding within digit allDigits numeral valueAfter magnitudeOf sign parsed
 twice = refl
 
 -- the ends of i64: -2^63, and 2^63
 least : parsed (ascii "-9223372036854775808") ≡ Value (negsuc 9223372036854775807)
-unfolding within digits numeral valueAfter magnitudeOf sign parsed
+unfolding within digit allDigits numeral valueAfter magnitudeOf sign parsed
 least = refl
 
 past : parsed (ascii "9223372036854775808") ≡ NotANumber
-unfolding within digits numeral valueAfter magnitudeOf sign parsed
+unfolding within digit allDigits numeral valueAfter magnitudeOf sign parsed
 past = refl
 
 -- ` -12`, newline, `7`: the line is taken and -12 pushed. A line with a lone continuation byte is refused
 taken : takeOf intOf (0x20 ∷ 0x2D ∷ 0x31 ∷ 0x32 ∷ 10 ∷ 0x37 ∷ []) 0 ≡ Push (negsuc 11) 5
-unfolding scalar scalars encode encodes whiteSpace within trimStart digits numeral valueAfter magnitudeOf sign parsed lineLength back rest chars same valid pushOrSkip takeOf
+unfolding scalar scalars encode encodes whiteSpace within trimStart digit allDigits numeral valueAfter magnitudeOf sign parsed lineLength back rest chars same valid pushOrSkip takeOf
 taken = refl
 
 refused : takeOf intOf (0x31 ∷ 0x80 ∷ 10 ∷ []) 0 ≡ BadInput

@@ -20,32 +20,30 @@ use lib.ListN.{length, getD, drop, drop-of-length-le}
 use mir.Syntax.{w64}
 use mir.Val.{toZ}
 use mir.ValLaws.{toZ-pos}
-use Rattle.base.specs.Text as base
-use Rattle.base.specs.Text.{decimal, valueAfter}
+use Rattle.base.specs.Text.{decimal, allDigits, numeral, valueAfter}
 use Rattle.base.proofs.Tests.{and-both, by-size}
-use Rattle.base.proofs.Decimal.{decimal-small, decimal-value, decimal-some, decimal-lead}
-use Rattle.text.specs.Range.{within}
-use Rattle.text.specs.Number.{digits, numeral, magnitudeOf, sign, plus, minus, parsed}
+use Rattle.base.proofs.Digits.{digit-in, digit-low, digit-high}
+use Rattle.base.proofs.Decimal.{decimal-small, decimal-value, decimal-some, decimal-lead, decimal-numeral}
+use Rattle.text.specs.Number.{magnitudeOf, sign, plus, minus, parsed}
 use Rattle.text.specs.declared.number.Number.the-variants.{Value, NotANumber}
 use Rattle.text.specs.declared.number.Magnitude.the-variants.{Is, Not}
-use Rattle.text.proofs.RangeLaws.{inside, below, above}
 use Rattle.text.proofs.Parts.{from1}
 
 module _ (s : List ℕ) (i : ℕ) where
-  pub digits-on : i < length s → 0x30 ≤ getD s i 0 → getD s i 0 ≤ 0x39 → digits (drop i s) ≡ digits (drop (i + 1) s)
-  unfolding digits
-  digits-on h l u = rw (from1 s i h, inside 0x30 0x39 (getD s i 0) l u)
+  pub digits-on : i < length s → 0x30 ≤ getD s i 0 → getD s i 0 ≤ 0x39 → allDigits (drop i s) ≡ allDigits (drop (i + 1) s)
+  unfolding allDigits
+  digits-on h l u = rw (from1 s i h, digit-in (getD s i 0) l u)
 
-  pub digits-low : i < length s → getD s i 0 < 0x30 → digits (drop i s) ≡ false
-  unfolding digits
-  digits-low h l = rw (from1 s i h, below 0x30 0x39 (getD s i 0) l)
+  pub digits-low : i < length s → getD s i 0 < 0x30 → allDigits (drop i s) ≡ false
+  unfolding allDigits
+  digits-low h l = rw (from1 s i h, digit-low (getD s i 0) l)
 
-  pub digits-high : i < length s → 0x39 < getD s i 0 → digits (drop i s) ≡ false
-  unfolding digits
-  digits-high h l = rw (from1 s i h, above 0x30 0x39 (getD s i 0) l)
+  pub digits-high : i < length s → 0x39 < getD s i 0 → allDigits (drop i s) ≡ false
+  unfolding allDigits
+  digits-high h l = rw (from1 s i h, digit-high (getD s i 0) l)
 
-  pub digits-end : length s ≤ i → digits (drop i s) ≡ true
-  unfolding digits
+  pub digits-end : length s ≤ i → allDigits (drop i s) ≡ true
+  unfolding allDigits
   digits-end h = rw (drop-of-length-le s h)
 
   pub value-on : (n b : ℕ) → i < length s → b ≡ getD s i 0 → valueAfter n (drop i s) ≡ valueAfter (n * 10 + (b - 0x30)) (drop (i + 1) s)
@@ -62,7 +60,7 @@ value-le n [] = le-refl n
 value-le n (b ∷ bs) = le-trans {m = n * 10 + (b - 0x30)} (omega arith) (value-le (n * 10 + (b - 0x30)) bs)
 
 module _ (limit : ℕ) where
-  pub no-numeral : (s : List ℕ) → digits s ≡ false → magnitudeOf limit s ≡ Not
+  pub no-numeral : (s : List ℕ) → allDigits s ≡ false → magnitudeOf limit s ≡ Not
   unfolding magnitudeOf numeral
   no-numeral [] e = refl
   no-numeral (b ∷ bs) e = rw e
@@ -71,10 +69,9 @@ module _ (limit : ℕ) where
   unfolding magnitudeOf
   too-large s h = rw (lt-leb (valueAfter 0 s) limit h, and-false)
 
-  pub is-magnitude : (s : List ℕ) → 0 < length s → digits s ≡ true → valueAfter 0 s ≤ limit → magnitudeOf limit s ≡ Is (valueAfter 0 s)
-  unfolding magnitudeOf numeral
-  is-magnitude [] n e h = absurd (omega arith)
-  is-magnitude (b ∷ bs) n e h = rw (e, le-leb (valueAfter 0 (b ∷ bs)) limit h)
+  pub is-magnitude : (s : List ℕ) → numeral s ≡ true → valueAfter 0 s ≤ limit → magnitudeOf limit s ≡ Is (valueAfter 0 s)
+  unfolding magnitudeOf
+  is-magnitude s e h = rw (e, le-leb (valueAfter 0 s) limit h)
 
   pub empty-magnitude : (s : List ℕ) → length s ≡ 0 → magnitudeOf limit s ≡ Not
   unfolding magnitudeOf numeral
@@ -124,29 +121,6 @@ unfolding parsed
 number-bare [] h n m = absurd (omega arith)
 number-bare (b ∷ bs) h n m = rw (ne-eqb b 0x2D n, ne-eqb b 0x2B m)
 
--- ---- base's decimal digits
-digits-append : (a b : List ℕ) → digits a ≡ true → digits b ≡ true → digits (a ++ b) ≡ true
-unfolding digits
-digits-append [] b e f = f
-digits-append (d ∷ a) b e f =
-    let p = and-both (within 0x30 0x39 d) (digits a) e in
-    rw (p .0) (digits-append a b (p .1) f)
-
-digit : (n : ℕ) → n < 10 → digits ((48 + n) ∷ []) ≡ true
-unfolding digits
-digit n h = rw (inside 0x30 0x39 (48 + n) (omega arith) (omega arith))
-
-all-digits : (f n : ℕ) → n ≤ f → digits (base.digits f n) ≡ true
-unfolding base.digits
-all-digits zero n h = digit n (omega arith)
-all-digits (suc f) n h =
-    by-size n 10 (λ l. rw (lt-ltb n 10 l) (digit n l))
-    (λ l. rw (le-ltb n 10 l) (digits-append (base.digits f (n / 10)) _ (all-digits f (n / 10) (omega arith)) (digit (n % 10) (omega arith))))
-
-decimal-digits : (n : ℕ) → digits (decimal n) ≡ true
-unfolding decimal
-decimal-digits n = all-digits n n (omega arith)
-
 decimal-first : (n : ℕ) → 48 ≤ getD (decimal n) 0 0
 decimal-first n =
     by-size n 1 (λ l. rw (decimal-small n (omega arith)) (omega arith)) (λ l. omega (arith, decimal-lead n l))
@@ -158,5 +132,5 @@ read-back n h =
     let f = decimal-first n in
     let v = decimal-value n in
     let bare = number-bare s (decimal-some n) (λ e. omega arith) (λ e. omega arith) in
-    let is = is-magnitude (2 ^ 63 - 1) s (decimal-some n) (decimal-digits n) (omega arith) in
+    let is = is-magnitude (2 ^ 63 - 1) s (decimal-numeral n) (omega arith) in
     sym bare ∙ ap (sign pos) (is ∙ ap Is v)

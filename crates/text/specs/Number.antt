@@ -1,25 +1,14 @@
 -- A number as IntIn reads it (rule 10.3). Assumes nothing.
 use Prim.Native.Nat.{ℕ, _-_, _^_}
-use mathlib.Core.Bool.{Bool, true, false, _&&_, cond}
+use mathlib.Core.Bool.{_&&_, cond}
 use mathlib.Core.List.{List, [], _∷_}
 use lib.Dec.{leb, eqb}
 use lib.IntN.{ℤ, pos, negℤ}
-use Rattle.base.specs.Text.{valueAfter}
-use Rattle.text.specs.Range.{within}
+use Rattle.base.specs.Text.{numeral, valueAfter}
 use Rattle.text.specs.declared.number.Number.{Number}
 use Rattle.text.specs.declared.number.Number.the-variants.{Value, NotANumber}
 use Rattle.text.specs.declared.number.Magnitude.{Magnitude}
 use Rattle.text.specs.declared.number.Magnitude.the-variants.{Is, Not}
-
--- every byte is a digit, `0` to `9`
-unfoldable pub digits : List ℕ → Bool
-digits [] = true
-digits (b ∷ bs) = within 0x30 0x39 b && digits bs
-
--- digits, at least one
-unfoldable pub numeral : List ℕ → Bool
-numeral [] = false
-numeral (b ∷ bs) = digits (b ∷ bs)
 
 -- the value of a numeral, where it is no more than the limit
 unfoldable pub magnitudeOf : ℕ → List ℕ → Magnitude

@@ -12,7 +12,7 @@ use mir.Syntax.{w64}
 use mir.ValLaws.{toZ-ofZ}
 use Rattle.base.specs.Text.{ascii, decimal}
 use Rattle.report.specs.Text.{int}
-use Rattle.report.proofs.Writing.{room-front, room-back, put-then}
+use Rattle.base.proofs.Over.{room-front, room-back, put-then}
 use borrow.Author.Needs.{needs}
 use Rattle.report.proofs.put_int.Statement.{statement}
 use Rattle.report.proofs.put_int.Tie as tie

@@ -6,15 +6,15 @@ use mathlib.Core.Path.{_≡_, refl, sym, ap, _∙_}
 use native.Mathlib.Omega.{arith}
 use borrow.Author.Needs.{needs}
 use lib.ListN.{length, drop}
-use Rattle.base.specs.Text.{valueAfter}
-use Rattle.text.specs.Number.{digits}
+use Rattle.base.specs.Text.{allDigits, valueAfter}
+use Rattle.base.proofs.Digits.{is-numeral}
 use Rattle.text.specs.declared.number.Magnitude.the-variants.{Is}
 use Rattle.text.proofs.NumberLaws.{digits-on, digits-low, digits-high, digits-end, value-on, value-end, value-le, no-numeral, too-large, is-magnitude, empty-magnitude}
 use Rattle.text.proofs.number.numeral_value.Statement.{statement}
 use Rattle.text.proofs.number.numeral_value.Tie as tie
 
 abbrev Inv-loop : tie.InvT-loop
-Inv-loop s limit n₀ i₀ n i = (i ≤ length s) × (n ≤ limit) × (digits s ≡ digits (drop i s)) × (valueAfter 0 s ≡ valueAfter n (drop i s))
+Inv-loop s limit n₀ i₀ n i = (i ≤ length s) × (n ≤ limit) × (allDigits s ≡ allDigits (drop i s)) × (valueAfter 0 s ≡ valueAfter n (drop i s))
 
 abbrev μ-loop : tie.MeasureT-loop
 μ-loop s limit n₀ i₀ n i = length s - i
@@ -91,7 +91,7 @@ returns-5 c =
     let l = c .before in
     let e : valueAfter 0 s ≡ l .loop .n = l .loop .inv .3 ∙ value-end s (l .loop .i) (l .loop .n) (c .loop-test .left) in
     let d = l .loop .inv .2 ∙ digits-end s (l .loop .i) (c .loop-test .left) in
-    sym (is-magnitude (z .args .limit) s (omega arith) d (omega arith) ∙ ap Is e)
+    sym (is-magnitude (z .args .limit) s (is-numeral s (omega arith) d) (omega arith) ∙ ap Is e)
 
 pub numeral-value-spec : {M : Type 1} → statement M
 numeral-value-spec =
