@@ -1,0 +1,99 @@
+// Replays stored answers of reading and writing P6 files. `stdin` holds cases: a byte for the kind (0 reads, 1 writes), then
+// in two bytes each, the lower first, the room that is lent, the height, the width and a length, and so many bytes, the file
+// or the pixels. `stdout` has a line for each: `r` or `w`, the number of the answer, its values where it is done, a colon, and
+// the lent bytes after the call, which were all 7 before it.
+ghost use Prim.Native.Nat.{_+_, _<_, _≤_};
+ghost use lib.ListN.{length};
+use libc::STDIN_FILENO;
+use libc::STDOUT_FILENO;
+use netpbm::reading::Read;
+use netpbm::reading::read_p6;
+use netpbm::writing::Written;
+use netpbm::writing::write_p6;
+
+fn print_read(r: Read) {
+    io::write_all(STDOUT_FILENO, b"r");
+    match r {
+        Read::Done { height, width } => {
+            stored::print_number(0);
+            stored::print_number(height as u64);
+            stored::print_number(width as u64);
+        }
+        Read::Header => stored::print_number(13),
+        Read::Size => stored::print_number(1),
+        Read::Length => stored::print_number(14),
+        Read::Room => stored::print_number(4),
+    }
+}
+
+fn print_written(r: Written) {
+    io::write_all(STDOUT_FILENO, b"w");
+    match r {
+        Written::Done { length } => {
+            stored::print_number(0);
+            stored::print_number(length as u64);
+        }
+        Written::Size => stored::print_number(1),
+        Written::Bytes => stored::print_number(2),
+        Written::Room => stored::print_number(4),
+    }
+}
+
+fn print_bytes(s: &[u8]) {
+    io::write_all(STDOUT_FILENO, b" :");
+    let mut i = 0;
+    while i < s.len() {
+        stored::print_byte(s[i]);
+        i += 1;
+    }
+    io::write_all(STDOUT_FILENO, b"\n");
+}
+
+fn print_case(kind: u8, height: usize, width: usize, body: &[u8], lent: &mut [u8]) {
+    if kind == 0 {
+        print_read(read_p6(body, lent));
+        print_bytes(lent);
+        return;
+    }
+    print_written(write_p6(body, height, width, lent));
+    print_bytes(lent);
+}
+
+// Two bytes as a number.
+fn pair_at(cases: &[u8], at: usize) -> usize
+    requires { ⌜ at + 2 ≤ length (now cases) ⌝ }
+    ensures { λ r. ⌜ r < 65536 ⌝ }
+{
+    stored::wide(cases[at]) + 256 * stored::wide(cases[at + 1])
+}
+
+fn print_at(cases: &[u8], at: usize, end: usize)
+    requires { ⌜ (at + 9 ≤ end) × (end ≤ length (now cases)) ⌝ }
+{
+    let mut lent = [7u8; 65536];
+    let room = pair_at(cases, at + 1);
+    let height = pair_at(cases, at + 3);
+    let width = pair_at(cases, at + 5);
+    print_case(
+        cases[at],
+        height,
+        width,
+        &cases[at + 9..end],
+        &mut lent[..room],
+    );
+}
+
+fn print_cases(cases: &[u8]) {
+    let mut at = 0;
+    while 9 <= cases.len() - at {
+        let end = stored::record_end(cases, at + 9, pair_at(cases, at + 7));
+        print_at(cases, at, end);
+        at = end;
+    }
+}
+
+fn main() {
+    let mut space = io::large_buffer();
+    let n = io::read_full(STDIN_FILENO, &mut space);
+    print_cases(&space[..n]);
+}
