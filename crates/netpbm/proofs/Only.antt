@@ -85,12 +85,12 @@ pub record Pictured (file before : List ℕ) (height width : ℕ) (after : List 
   pub room : length pixels ≤ length before
   pub leaves : after ≡ lent pixels before
 
-done-tells : {file before : List ℕ} {h w : ℕ} (t : Said) → Says file t → numbers 0 (h ∷ w ∷ []) ≡ reads.answer t (length before)
+done-says : {file before : List ℕ} {h w : ℕ} (t : Said) → Says file t → numbers 0 (h ∷ w ∷ []) ≡ reads.answer t (length before)
     → Pictured file before h w (lent (pixelsOf t) before)
 unfolding reads.answer reads.refusals
-done-tells {file} {before} {h} {w} nothing u e =
+done-says {file} {before} {h} {w} nothing u e =
     absurd (true≢false (passed _ 12 _ (h ∷ w ∷ []) _ _ e .0))
-done-tells {file} {before} {h} {w} (said h′ w′ p) u e =
+done-says {file} {before} {h} {w} (said h′ w′ p) u e =
     let v : List ℕ = h ∷ w ∷ [] in
     let s = passed _ 12 _ v _ _ e in
     let a = passed _ 0 _ v _ _ (s .1) in
@@ -112,7 +112,7 @@ done-tells {file} {before} {h} {w} (said h′ w′ p) u e =
     }
 
 pub done-is : {file before : List ℕ} {h w : ℕ} {after : List ℕ} → reads.Outcome file before (Done h w) after → Pictured file before h w after
-done-is {file} {before} {h} {w} o = let e = o .leaves in rw e (done-tells (o .content) (o .says) (o .answers))
+done-is {file} {before} {h} {w} o = let e = o .leaves in rw e (done-says (o .content) (o .says) (o .answers))
 
 -- and every such picture is read
 pub is-done : {file before : List ℕ} {h w : ℕ} {after : List ℕ} {r : Read} → Pictured file before h w after
