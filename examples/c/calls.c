@@ -57,6 +57,12 @@ static const uint32_t exit_cells[] = {
 
 static const uint8_t lines[8] = {'7', '\n', '3', '0', '0', '\n', '5', '\n'};
 
+/* A P6 file of 1 x 2 pixels; it has the width first. */
+static const uint8_t p6_file[17] = {
+    'P', '6', ' ', '2', ' ', '1', ' ', '2', '5', '5', '\n',
+    'a', 'b', 'c', 'd', 'e', 'f',
+};
+
 /* What building is lent, and what a run is. */
 struct table {
     uint32_t map[7], rows[31], exits[49], work[8];
@@ -323,6 +329,55 @@ static void run_picture(uint64_t *answer, size_t answer_length)
     print_room(&room);
 }
 
+struct read_p6_call {
+    const uint8_t *file;
+    size_t file_length;
+    uint8_t *pixels;
+    size_t pixels_length;
+    uint64_t *answer;
+    size_t answer_length;
+};
+
+static void read_p6(size_t file_length, uint64_t *answer, size_t answer_length)
+{
+    uint8_t lent[8];
+    FILL(lent, 89);
+    struct read_p6_call call = {
+        .file = p6_file, .file_length = file_length,
+        .pixels = lent, .pixels_length = COUNT(lent),
+        .answer = answer, .answer_length = answer_length,
+    };
+    uint32_t number = piet_read_p6(call.file, call.file_length, call.pixels, call.pixels_length,
+                                   call.answer, call.answer_length);
+    print_returned("piet_read_p6", number, answer, answer_length);
+    PRINT("pixels", lent, COUNT(lent));
+}
+
+struct write_p6_call {
+    const uint8_t *pixels;
+    size_t pixels_length, height, width;
+    uint8_t *file;
+    size_t file_length;
+    uint64_t *answer;
+    size_t answer_length;
+};
+
+static void write_p6(size_t height, uint64_t *answer, size_t answer_length)
+{
+    uint8_t file[58];
+    FILL(file, 79);
+    struct write_p6_call call = {
+        .pixels = pixels, .pixels_length = COUNT(pixels),
+        .height = height, .width = WIDTH,
+        .file = file, .file_length = COUNT(file),
+        .answer = answer, .answer_length = answer_length,
+    };
+    uint32_t number = piet_write_p6(call.pixels, call.pixels_length, call.height, call.width,
+                                    call.file, call.file_length, call.answer, call.answer_length);
+    print_returned("piet_write_p6", number, answer, answer_length);
+    PRINT("file", file, COUNT(file));
+}
+
 int main(void)
 {
     uint64_t one[1], two[2], three[3], seven[7], eight[8], nine[9], ten[10];
@@ -346,5 +401,11 @@ int main(void)
     run(seven, COUNT(seven));
     run_picture(ten, COUNT(ten));
     run_picture(eight, COUNT(eight));
+    read_p6(COUNT(p6_file), three, COUNT(three));
+    read_p6(COUNT(p6_file) - 1, three, COUNT(three)); /* its last byte is missing */
+    read_p6(COUNT(p6_file), one, COUNT(one));
+    write_p6(HEIGHT, two, COUNT(two));
+    write_p6(HEIGHT + 1, two, COUNT(two)); /* the pixels don't fit */
+    write_p6(HEIGHT, one, 0);
     return 0;
 }

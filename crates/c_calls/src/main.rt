@@ -1,7 +1,8 @@
 // Calls every function for C by position and prints what is returned, the answer and every lent slice. A swap of two
 // parameters in a signature is proved, since its contract is swapped with it; here another text than `stdout` is printed.
 //
-// One picture is used throughout: 3 x 5 pixels in codels of 2, so that its three numbers differ. Its codels are
+// One picture is used throughout, but for the file that is read: 3 x 5 pixels in codels of 2, so that its three numbers
+// differ. Its codels are
 //     red    light blue    cyan
 //     red    white         cyan
 // and its other pixels are black, but for (2,1), which has none of the twenty colours. No two slices of a call are filled
@@ -12,6 +13,8 @@
 //     forever        the rows are too short to be exits
 //     run            7 is read and written, a slide leads back, 300 is read: it lies on the stack, and 7 in the values
 //     run_picture    as classify, build and run together, with the same lent slices
+//     read_p6        a file of 1 x 2 pixels, and one whose last byte is missing; the file has the width first
+//     write_p6       the file's text tells height from width; with another height the bytes don't fit
 // Each is called once more with too short an answer, which changes nothing.
 use libc::STDOUT_FILENO;
 
@@ -219,6 +222,21 @@ fn run_picture(answer: &mut [u64]) {
     print_room(&stack, &kinds, &values);
 }
 
+fn read_p6(file: &[u8], answer: &mut [u64]) {
+    let mut pixels = [89u8; 8];
+    let number = piet_c::p6::piet_read_p6(file, &mut pixels, answer);
+    print_returned(b"piet_read_p6", number, answer);
+    print_bytes(b"  pixels", &pixels);
+}
+
+fn write_p6(height: usize, answer: &mut [u64]) {
+    let pixels = pixels();
+    let mut file = [79u8; 58];
+    let number = piet_c::p6::piet_write_p6(&pixels, height, 5, &mut file, answer);
+    print_returned(b"piet_write_p6", number, answer);
+    print_bytes(b"  file", &file);
+}
+
 fn main() {
     let mut none = [0u64; 0];
     let mut one = [90u64; 1];
@@ -241,4 +259,10 @@ fn main() {
     run(&mut seven);
     run_picture(&mut ten);
     run_picture(&mut eight);
+    read_p6(b"P6 2 1 255\nabcdef", &mut three);
+    read_p6(b"P6 2 1 255\nabcde", &mut three);
+    read_p6(b"P6 2 1 255\nabcdef", &mut one);
+    write_p6(3, &mut two);
+    write_p6(4, &mut two);
+    write_p6(3, &mut none);
 }

@@ -1,7 +1,8 @@
--- Demand 3, for C: from what `piet_build` and `piet_run` promise, a run of what was built from a picture is not refused, and
--- it follows the picture. Nothing of how either is met is used. Assumes nothing.
+-- Two calls from C, one after the other, from what the two promise; nothing of how either is met is used. Demand 3: a run of
+-- what was built from a picture is not refused, and it follows the picture. Rule 15.6: a P6 file that was written is read back
+-- the same. Assumes nothing.
 use mathlib.Core.Path.{_≡_, sym, ap, _∙_}
-use mathlib.Core.List.{List}
+use mathlib.Core.List.{List, [], _∷_}
 use Prim.Native.Nat.{ℕ, _<_, _≤_}
 use native.Mathlib.Omega.{arith}
 use lib.ListN.{length, getD, take}
@@ -18,8 +19,21 @@ use Rattle.interpreter.specs.Outcome as running
 use Rattle.interpreter.specs.Outcome.{endedOf, resultOf, slicesOf}
 use Rattle.piet.specs.Follows.{Follows}
 use Rattle.piet.proofs.Built.{picture-follows}
+use Rattle.netpbm.specs.declared.writing.Written.{Written}
+use Rattle.netpbm.specs.declared.writing.Written.the-variants.{Done as Wrote, Size as WrongSize, Bytes as WrongBytes, Room as NoRoom}
+use Rattle.netpbm.specs.Reads as reading
+use Rattle.netpbm.specs.Writes as writing
+use Rattle.netpbm.proofs.RoundTrip.{round-trip}
 use Rattle.piet_c.specs.Exported.{Exported, short, made}
-use Rattle.piet_c.specs.Calls.{BuildCall, TableRoom, RunCall}
+use Rattle.piet_c.specs.Calls.{BuildCall, TableRoom, RunCall, ReadP6Call, WriteP6Call}
+
+-- where 0 was returned the call was made, and its answer's number is 0
+done-made : {need : ℕ} {S A : Type 0} {numbered : A → Numbers} {Leaves : A → S → Type 0} {before after : S} {a a′ : List ℕ}
+    → Exported need (λ (n : Numbers) (s : S). (r : A) × (numbered r ≡ n) × Leaves r s) before a 0 after a′
+    → (r : A) × (0 ≡ numberOf (numbered r)) × (a′ ≡ lent (valuesOf (numbered r)) a) × Leaves r after
+done-made (short h e f g) = absurd (omega arith)
+done-made {a = a} (made n h (r, e, o) z w) =
+    (r, z ∙ sym (ap numberOf e), w ∙ sym (ap (λ (x : Numbers). lent (valuesOf x) a) e), o)
 
 -- where 0 was returned the answer's first cell is the count of regions
 counted : (r : Built) (a : List ℕ) {a′ : List ℕ} → 0 ≡ numberOf (building.numbered r) → a′ ≡ lent (valuesOf (building.numbered r)) a
@@ -37,10 +51,7 @@ counted White a e w = absurd (omega arith)
 -- so the table stands in the slices
 table : {p : Picture} {s s′ : TableRoom} {a a′ : List ℕ} → Exported 2 (BuildCall p s) s a 0 s′ a′
     → building.Outcome p (s .map) (s .rows) (s .exits) (s .work) (Done (getD a′ 0 0)) (s′ .map) (s′ .rows) (s′ .exits) (s′ .work)
-table (short h e f g) = absurd (omega arith)
-table {a = a} (made k h (r, e, o) z w) =
-    let c = counted r a (z ∙ sym (ap numberOf e)) (w ∙ sym (ap (λ (x : Numbers). lent (valuesOf x) a) e)) in
-    rw (sym c) o
+table {a = a} x = let m = done-made x in rw (sym (counted (m .0) a (m .1) (m .2))) (m .3)
 
 -- `piet_build` returned 0, and `piet_run` was called with the first cell of its answer as n, on the rows and exits that it
 -- wrote, with an answer of eight cells or more
@@ -55,3 +66,30 @@ c-picture-follows o g l {b} h (made k i (x, e, q) z w) =
     let t = picture-follows (table o) g l q in
     let f = sym e ∙ ap running.numbered (t .1) in
     (t .0, z ∙ ap numberOf f, w ∙ ap (λ (x : Numbers). lent (valuesOf x) b) f, t .2, t .3, t .4)
+
+-- where 0 was returned the answer's first cell is the length of the file
+measured : (r : Written) (a : List ℕ) {a′ : List ℕ} → 0 ≡ numberOf (writing.numbered r) → a′ ≡ lent (valuesOf (writing.numbered r)) a
+    → r ≡ Wrote (getD a′ 0 0)
+unfolding lent
+measured (Wrote n) a e w = ap Wrote (sym (ap (λ (x : List ℕ). getD x 0 0) w))
+measured WrongSize a e w = absurd (omega arith)
+measured WrongBytes a e w = absurd (omega arith)
+measured NoRoom a e w = absurd (omega arith)
+
+-- so the file stands at the start of what was lent
+file-written : {pixels : List ℕ} {height width : ℕ} {before after a a′ : List ℕ} → Exported 1 (WriteP6Call pixels height width before) before a 0 after a′
+    → writing.Outcome pixels height width before (Wrote (getD a′ 0 0)) after
+file-written {a = a} x = let m = done-made x in rw (sym (measured (m .0) a (m .1) (m .2))) (m .3)
+
+-- `piet_write_p6` returned 0, and `piet_read_p6` was given as many of the bytes that it wrote as the first cell of its answer
+-- says, room for the pixels, and an answer of two cells or more: 0 again, the same pixels, the same height and width
+pub c-p6-comes-back : {pixels : List ℕ} {height width : ℕ} {before after a a′ : List ℕ}
+    → Exported 1 (WriteP6Call pixels height width before) before a 0 after a′
+    → {lends leaves b b′ : List ℕ} {r : ℕ} → length pixels ≤ length lends → 2 ≤ length b
+    → Exported 2 (ReadP6Call (take (getD a′ 0 0) after) lends) lends b r leaves b′
+    → (r ≡ 0) × (leaves ≡ lent pixels lends) × (b′ ≡ lent (height ∷ width ∷ []) b)
+c-p6-comes-back o room h (short i e f w) = absurd (omega arith)
+c-p6-comes-back o {b = b} room h (made k i (x, e, q) z w) =
+    let t = round-trip (file-written o) room q in
+    let f = sym e ∙ ap reading.numbered (t .0) in
+    (z ∙ ap numberOf f, t .1, w ∙ ap (λ (x : Numbers). lent (valuesOf x) b) f)

@@ -10,7 +10,7 @@ use Rattle.machine.specs.Held.{Slices}
 use Rattle.interpreter.specs.Outcome as running
 use Rattle.interpreter.proofs.Only.{run-only}
 use Rattle.piet_c.specs.Exported.{Exported, short, made}
-use Rattle.piet_c.specs.Calls.{ClassifyCall, LabelCall, BuildCall, TableRoom, RunCall, ForeverCall, nine, PictureCall}
+use Rattle.piet_c.specs.Calls.{ClassifyCall, LabelCall, BuildCall, TableRoom, RunCall, ForeverCall, nine, PictureCall, ReadP6Call, WriteP6Call}
 use Rattle.picture.specs.Picture.{Picture}
 use Rattle.colour.proofs.Only.{classify-only, label-only}
 use Rattle.colour.specs.Classify as classifying
@@ -21,6 +21,9 @@ use Rattle.piet.specs.declared.run_picture.Pictured.{Pictured}
 use Rattle.piet.specs.RunPicture as picturing
 use Rattle.piet.specs.RunPicture.{Asked, Lends}
 use Rattle.piet.proofs.Only.{run-picture-only}
+use Rattle.netpbm.specs.Reads as reading
+use Rattle.netpbm.specs.Writes as writing
+use Rattle.netpbm.proofs.Only.{read-only, write-only}
 
 -- what a call makes is determined
 abbrev pub Settles : {S : Type 0} → (Numbers → S → Type 0) → Type 0
@@ -69,3 +72,11 @@ pub pictures : (a : Asked) (l : Lends) → Settles (PictureCall a l)
 pictures a l n n′ s s′ (r, e, o) (r′, e′, o′) =
     let d = run-picture-only o o′ in
     (sym e ∙ ap (λ (x : Pictured). nine (picturing.numbered x)) (d .0) ∙ e′, d .1)
+
+pub reads-p6 : (file pixels : List ℕ) → Settles (ReadP6Call file pixels)
+reads-p6 file pixels n n′ s s′ (r, e, o) (r′, e′, o′) =
+    let d = read-only o o′ in (sym e ∙ ap reading.numbered (d .0) ∙ e′, d .1)
+
+pub writes-p6 : (pixels : List ℕ) (height width : ℕ) (file : List ℕ) → Settles (WriteP6Call pixels height width file)
+writes-p6 pixels height width file n n′ s s′ (r, e, o) (r′, e′, o′) =
+    let d = write-only o o′ in (sym e ∙ ap writing.numbered (d .0) ∙ e′, d .1)

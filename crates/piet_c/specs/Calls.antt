@@ -1,4 +1,4 @@
--- What each call makes: the layers' own outcomes, by their numbers (rules 8.5, 12.2). Assumes nothing.
+-- What each call makes: the layers' own outcomes, by their numbers (rules 8.5, 12.2, 15.4, 15.5). Assumes nothing.
 use mathlib.Core.Path.{_≡_}
 use mathlib.Core.List.{List, _++_}
 use Prim.Native.Nat.{ℕ, _-_}
@@ -20,6 +20,10 @@ use Rattle.interpreter.specs.Forever as always
 use Rattle.piet.specs.declared.run_picture.Pictured.{Pictured}
 use Rattle.piet.specs.RunPicture as picturing
 use Rattle.piet.specs.RunPicture.{Asked, Lends}
+use Rattle.netpbm.specs.declared.reading.Read.{Read}
+use Rattle.netpbm.specs.Reads as reading
+use Rattle.netpbm.specs.declared.writing.Written.{Written}
+use Rattle.netpbm.specs.Writes as writing
 
 abbrev pub ClassifyCall : List ℕ → ℕ → ℕ → ℕ → List ℕ → Numbers → List ℕ → Type 0
 ClassifyCall pixels height width setting colours n colours′ =
@@ -57,3 +61,11 @@ nine (numbers n values) = numbers n (values ++ replicate (9 - length values) 0)
 -- nine values: the run's eight and the count of regions (rule 8.5); or the place of an unknown pixel and zeros (rule 12.1)
 abbrev pub PictureCall : Asked → Lends → Numbers → Lends → Type 0
 PictureCall a l n l′ = (r : Pictured) × (nine (picturing.numbered r) ≡ n) × picturing.Outcome a l r l′
+
+-- two values: the height and the width (rule 15.4)
+abbrev pub ReadP6Call : List ℕ → List ℕ → Numbers → List ℕ → Type 0
+ReadP6Call file pixels n pixels′ = (r : Read) × (reading.numbered r ≡ n) × reading.Outcome file pixels r pixels′
+
+-- one value: how many bytes were written (rule 15.5)
+abbrev pub WriteP6Call : List ℕ → ℕ → ℕ → List ℕ → Numbers → List ℕ → Type 0
+WriteP6Call pixels height width file n file′ = (r : Written) × (writing.numbered r ≡ n) × writing.Outcome pixels height width file r file′
