@@ -7,6 +7,8 @@
  *   piet_label      a region's colour and first pixel -> its name, as RegRed_0_1
  *   piet_determine_runs_forever       table -> whether every node has an exit
  *   piet_run_picture                  pixels, input -> the whole run: the first three in one call
+ *   piet_read_p6                      a Netpbm P6 file -> pixels, height and width
+ *   piet_write_p6                     pixels -> a Netpbm P6 file
  *
  * Slices. Each slice is lent as two arguments, a pointer and the number of its elements. No pointer is null, also not
  * that of an empty slice. Slices of one call do not overlap where one of them is written. No call keeps what it was
@@ -38,14 +40,16 @@ enum piet_refusal {
     PIET_REFUSED_SIZE = 1,     /* height or width 0 or above 1,024 */
     PIET_REFUSED_BYTES = 2,    /* pixels not 3 x height x width bytes, or colours not height x width */
     PIET_REFUSED_SETTING = 3,  /* a setting for unknown pixels above 3 */
-    PIET_REFUSED_ROOM = 4,     /* colours, map, rows, exits, work or answer too short */
+    PIET_REFUSED_ROOM = 4,     /* colours, map, rows, exits, work, a P6's pixels or bytes, or answer too short */
     PIET_REFUSED_PIXEL = 5,    /* settings 0 and 1: a pixel that is none of the twenty colours; its row and column */
     PIET_REFUSED_CODEL = 6,    /* codel width 0 or above 1,024 */
     PIET_REFUSED_GRID = 7,     /* more than 65,536 codels */
     PIET_REFUSED_COLOUR = 8,   /* a colour number above 19; its index */
     PIET_REFUSED_WHITE = 9,    /* pixel (0,0) is white, and a run can't start there */
     PIET_REFUSED_TABLE = 10,   /* not a valid table: see piet_run */
-    PIET_REFUSED_LABEL = 12    /* colour above 19, row or column above 1,023, or under 22 bytes lent */
+    PIET_REFUSED_LABEL = 12,   /* colour above 19, row or column above 1,023, or under 22 bytes lent */
+    PIET_REFUSED_HEADER = 13,  /* no P6 header, or another maximum than 255 */
+    PIET_REFUSED_LENGTH = 14   /* too few or too many bytes after a P6 header */
 };
 
 /* Colour numbers: a hue 0 to 5, plus 6 for each step of lightness above dark. */
@@ -131,7 +135,7 @@ enum piet_kind {
     PIET_INT = 2
 };
 
-/* Sizes of answers, rows and exits, and of a label's room. */
+/* Sizes of answers, rows and exits, of a label's room, and of the longest P6 header that is written. */
 enum piet_size {
     PIET_CLASSIFY_ANSWER = 2,
     PIET_BUILD_ANSWER = 2,
@@ -139,15 +143,21 @@ enum piet_size {
     PIET_FOREVER_ANSWER = 1,
     PIET_RUN_ANSWER = 8,
     PIET_RUN_PICTURE_ANSWER = 9,
+    PIET_READ_P6_ANSWER = 2,
+    PIET_WRITE_P6_ANSWER = 1,
     PIET_ROW = 5,         /* cells of a region's row: colour, size, first pixel row, first pixel column, node mark */
     PIET_EXITS = 8,       /* exits of a region, by pointer state 2 x dp + cc */
-    PIET_LABEL_ROOM = 22
+    PIET_LABEL_ROOM = 22,
+    PIET_P6_HEADER = 17
 };
 
 /* An exit that is not 0 is 1 + target region + 65,536 x new pointer state + 524,288 x instruction. */
 #define PIET_EXIT_TARGET(exit) (((exit) - 1u) % 65536u)
 #define PIET_EXIT_STATE(exit) (((exit) - 1u) / 65536u % 8u)
 #define PIET_EXIT_INSTRUCTION(exit) (((exit) - 1u) / 524288u)
+
+/* The bytes that always suffice for writing a picture of these sides as P6. */
+#define PIET_P6_ROOM(height, width) (PIET_P6_HEADER + 3 * (size_t)(height) * (size_t)(width))
 
 /*
  * The colour numbers of a picture's pixels, row by row.
@@ -272,6 +282,39 @@ uint32_t piet_run_picture(const uint8_t *pixels, size_t pixels_length,
                           uint8_t *kinds, size_t kinds_length,
                           int64_t *values, size_t values_length,
                           uint64_t *answer, size_t answer_length);
+
+/*
+ * The pixels of a Netpbm P6 file, which paint programs export as PPM in bytes ("raw"). The file is `P6`, the width, the
+ * height and the maximum 255, each number after a gap; then one white space byte, and the pixels to the file's end.
+ * White space is blank, tab, return and newline; a gap is one or more white space bytes or comments, and a comment goes
+ * from # through the next newline. A number has any count of digits, and leading zeros say nothing.
+ *
+ *   file     all bytes of the file
+ *   pixels   room for 3 x height x width bytes: the pixels, as piet_classify and piet_run_picture take them; what is
+ *            longer stays as it was past them. As many bytes as the file has always suffice
+ *   answer   2 cells: height and width, though the file has the width first
+ *
+ * Returns the first refusal that holds in the order HEADER, SIZE, LENGTH, ROOM, or PIET_DONE.
+ */
+uint32_t piet_read_p6(const uint8_t *file, size_t file_length,
+                      uint8_t *pixels, size_t pixels_length,
+                      uint64_t *answer, size_t answer_length);
+
+/*
+ * A picture as a Netpbm P6 file: `P6`, width, height and 255, a newline after each, and the pixels. piet_read_p6 reads
+ * it back the same.
+ *
+ *   pixels   three bytes a pixel, of any colours: 3 x height x width bytes
+ *   file     room for the file, for which PIET_P6_ROOM(height, width) bytes always suffice; what is longer stays as it
+ *            was past it
+ *   answer   1 cell: the file's length: 9, the digits of both sides, and 3 x height x width
+ *
+ * Returns the first refusal that holds in the order SIZE, BYTES, ROOM, or PIET_DONE.
+ */
+uint32_t piet_write_p6(const uint8_t *pixels, size_t pixels_length,
+                       size_t height, size_t width,
+                       uint8_t *file, size_t file_length,
+                       uint64_t *answer, size_t answer_length);
 
 #ifdef __cplusplus
 }

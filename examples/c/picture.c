@@ -9,6 +9,7 @@
 #include <stdio.h>
 
 #include "piet.h"
+#include "told.h"
 
 enum { HEIGHT = 1, WIDTH = 2, CODEL = 1, CODELS = HEIGHT * WIDTH, STACK = 16, OUTPUTS = 16, LIMIT = 3 };
 
@@ -27,37 +28,15 @@ static uint32_t run(const uint8_t *pixels, size_t length)
                             answer, PIET_RUN_PICTURE_ANSWER);
 }
 
-static void print_place(void)
-{
-    const uint32_t *row = rows + PIET_ROW * answer[2];
-    uint8_t label[PIET_LABEL_ROOM];
-    uint64_t length = 0;
-    piet_label((uint8_t)row[0], row[2], row[3], label, PIET_LABEL_ROOM, &length, PIET_LABEL_ANSWER);
-    printf("at %.*s %" PRIu64 " %" PRIu64 "\n", (int)length, (const char *)label, answer[3], answer[4]);
-}
-
-/* The stack with its top first, then the outputs in order. */
-static void print_values(void)
-{
-    printf("stack %" PRIu64, answer[5]);
-    for (uint64_t i = answer[5]; i > 0; i--)
-        printf(" %" PRId64, stack[i - 1]);
-    printf("\nout %" PRIu64, answer[6]);
-    for (uint64_t i = 0; i < answer[6]; i++)
-        printf(" %c%" PRId64, kinds[i] == PIET_CHAR ? 'c' : 'i', values[i]);
-    printf("\n");
-}
-
 int main(void)
 {
     static const uint8_t pixels[3 * CODELS] = {0xFF, 0xC0, 0xC0, 0xFF, 0x00, 0x00};
+    const struct told told = {answer, rows, stack, kinds, values};
     uint32_t number = run(pixels, sizeof pixels);
     if (number != PIET_DONE) {
         printf("refused %" PRIu32 "\n", number);
         return 1;
     }
-    printf("status %" PRIu64 "\nsteps %" PRIu64 "\n", answer[0], answer[1]);
-    print_place();
-    print_values();
+    print_told(&told);
     return 0;
 }

@@ -11,6 +11,7 @@
 #include <stdlib.h>
 
 #include "piet.h"
+#include "told.h"
 
 enum { HEIGHT = 1, WIDTH = 2, CODEL = 1, CODELS = HEIGHT * WIDTH, STACK = 16, OUTPUTS = 16, LIMIT = 3 };
 
@@ -54,28 +55,6 @@ static void run_table(const struct table *table, struct run *run)
                          PIET_RUN_ANSWER));
 }
 
-static void print_place(const struct table *table, const struct run *run)
-{
-    const uint32_t *row = table->rows + PIET_ROW * run->answer[2];
-    uint8_t label[PIET_LABEL_ROOM];
-    uint64_t length;
-    expect_done(piet_label((uint8_t)row[0], row[2], row[3], label, PIET_LABEL_ROOM, &length, PIET_LABEL_ANSWER));
-    printf("at %.*s %" PRIu64 " %" PRIu64 "\n", (int)length, (const char *)label, run->answer[3], run->answer[4]);
-}
-
-/* The stack with its top first, then the outputs in order, as the run program prints them. */
-static void print_values(const struct run *run)
-{
-    uint64_t depth = run->answer[5], outputs = run->answer[6];
-    printf("stack %" PRIu64, depth);
-    for (uint64_t i = depth; i > 0; i--)
-        printf(" %" PRId64, run->stack[i - 1]);
-    printf("\nout %" PRIu64, outputs);
-    for (uint64_t i = 0; i < outputs; i++)
-        printf(" %c%" PRId64, run->kinds[i] == PIET_CHAR ? 'c' : 'i', run->values[i]);
-    printf("\n");
-}
-
 int main(void)
 {
     static const uint8_t pixels[3 * CODELS] = {0xFF, 0xC0, 0xC0, 0xFF, 0x00, 0x00};
@@ -83,8 +62,7 @@ int main(void)
     struct run run;
     classify_and_build(pixels, &table);
     run_table(&table, &run);
-    printf("status %" PRIu64 "\nsteps %" PRIu64 "\n", run.answer[0], run.answer[1]);
-    print_place(&table, &run);
-    print_values(&run);
+    const struct told told = {run.answer, table.rows, run.stack, run.kinds, run.values};
+    print_told(&told);
     return 0;
 }

@@ -66,7 +66,8 @@ def to_bytes(job):
 
 
 def looks_like_job(data):
-    """Whether a first record of kind 1 begins here. No text grid and no picture has these two bytes."""
+    """Whether a first record of kind 1 begins here. No text grid has these two bytes, nor has a picture, but for a PPM
+    with such a comment."""
     return data[4:6] == b"\1\0"
 
 

@@ -82,3 +82,43 @@ pub fn run_picture(picture: Picture, terms: Terms, room: PictureRoom) -> Result<
     let ended = Ended::of([status, steps, region, dp, cc, depth, outputs, used]);
     Ok(Pictured { ended, regions: regions as usize })
 }
+
+/// The pixels of a Netpbm P6 file, three bytes each, into the first cells of `pixels`; gives height and width. As many
+/// cells as the file has bytes always suffice. [`crate::Pixels::of_p6`] allocates them.
+///
+/// ```
+/// let mut pixels = [7; 8];
+/// assert_eq!(piet::read_p6(b"P6\n# two pixels\n2 1\n255\nabcdef", &mut pixels), Ok((1, 2)));
+/// assert_eq!(&pixels, b"abcdef\x07\x07");
+/// ```
+///
+/// # Errors
+///
+/// Header, Size, Length, Room: the first that holds.
+pub fn read_p6(file: &[u8], pixels: &mut [u8]) -> Result<(usize, usize), Refusal> {
+    let mut answer = [0; 2];
+    let number = raw::read_p6(file, pixels, &mut answer);
+    Refusal::unless_done(number, [0; 2])?;
+    let [height, width] = answer.map(|cell| cell as usize);
+    Ok((height, width))
+}
+
+/// A picture as a Netpbm P6 file, into the first bytes of `file`; gives the file's length. [`crate::P6_HEADER`] +
+/// 3 x height x width bytes always suffice. [`Picture::to_p6`] allocates them.
+///
+/// ```
+/// let mut file = [0; piet::P6_HEADER + 6];
+/// let length = piet::write_p6(b"abcdef", (1, 2), &mut file)?;
+/// assert_eq!(&file[..length], b"P6\n2\n1\n255\nabcdef");
+/// # Ok::<(), piet::Refusal>(())
+/// ```
+///
+/// # Errors
+///
+/// Size, Bytes, Room: the first that holds.
+pub fn write_p6(pixels: &[u8], (height, width): (usize, usize), file: &mut [u8]) -> Result<usize, Refusal> {
+    let mut answer = [0; 1];
+    let number = raw::write_p6(pixels, (height, width), file, &mut answer);
+    Refusal::unless_done(number, [0; 2])?;
+    Ok(answer[0] as usize)
+}

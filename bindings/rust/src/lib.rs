@@ -12,6 +12,8 @@
 //! assert_eq!(told.to_string(), "status 2\nsteps 3\nat RegRed_0_1 0 0\nstack 1 1\nout 0\n");
 //! # Ok::<(), piet::Error>(())
 //! ```
+//!
+//! [`Pixels::of_p6`] reads the pixels of a Netpbm P6 file, and [`Picture::to_p6`] writes them as one.
 #![deny(missing_docs, unsafe_code)]
 
 mod calls;
@@ -22,6 +24,7 @@ mod instruction;
 mod lent;
 mod numbers;
 mod output;
+mod p6;
 mod picture;
 mod pixels;
 mod pointers;
@@ -30,7 +33,7 @@ mod raw;
 mod refusal;
 mod table;
 
-pub use calls::{build, classify, determine_runs_forever, label, run, run_picture};
+pub use calls::{build, classify, determine_runs_forever, label, read_p6, run, run_picture, write_p6};
 pub use colour::{Colour, Unknown};
 pub use ended::{Ended, Pictured, Status};
 pub use error::Error;
@@ -38,6 +41,7 @@ pub use instruction::Instruction;
 pub use lent::{PictureRoom, RunRoom, TableRoom, Terms};
 pub use numbers::NoSuch;
 pub use output::Output;
+pub use p6::{Pixels, P6_HEADER};
 pub use picture::{Picture, Shape, MOST_CODELS};
 pub use pixels::{run_pixels, Cells, Told};
 pub use pointers::{Cc, Dp, Pointers};

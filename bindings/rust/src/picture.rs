@@ -5,7 +5,7 @@ use crate::Unknown;
 pub const MOST_CODELS: usize = 65_536;
 
 /// The most pixels of a side.
-const MOST_SIDE: usize = 1_024;
+pub(crate) const MOST_SIDE: usize = 1_024;
 
 /// A picture's sides in pixels, and how many pixels a codel has on a side.
 #[derive(Clone, Copy, Debug, PartialEq, Eq, Hash)]

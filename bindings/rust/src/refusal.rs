@@ -39,6 +39,10 @@ pub enum Refusal {
     Table,
     /// 12: row or column of a label is above 1,023, or under 22 bytes are lent for it.
     Label,
+    /// 13: the file has no P6 header, or another maximum than 255.
+    Header,
+    /// 14: too few or too many bytes follow a P6 header.
+    Length,
 }
 
 impl Refusal {
@@ -56,6 +60,8 @@ impl Refusal {
             Refusal::White => 9,
             Refusal::Table => 10,
             Refusal::Label => 12,
+            Refusal::Header => 13,
+            Refusal::Length => 14,
         }
     }
 
@@ -81,6 +87,8 @@ impl Refusal {
             9 => Refusal::White,
             10 => Refusal::Table,
             12 => Refusal::Label,
+            13 => Refusal::Header,
+            14 => Refusal::Length,
             _ => return None,
         })
     }
@@ -102,6 +110,8 @@ impl fmt::Display for Refusal {
             Refusal::White => write!(f, "pixel (0,0) is white"),
             Refusal::Table => write!(f, "not a valid table"),
             Refusal::Label => write!(f, "no such label, or under 22 bytes for it"),
+            Refusal::Header => write!(f, "no P6 header, or another maximum than 255"),
+            Refusal::Length => write!(f, "too few or too many bytes after the P6 header"),
         }
     }
 }

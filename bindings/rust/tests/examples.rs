@@ -1,14 +1,17 @@
-//! The repository's examples: each job through the library gives what stands beside it.
-use piet::{run_pixels, Cells, Error, Picture, Shape, Terms};
+//! The repository's examples: each job through the library, and the saved picture, gives what stands beside it.
+use piet::{run_pixels, Cells, Error, Picture, Pixels, Shape, Terms};
 use std::fs;
 use std::path::{Path, PathBuf};
 
 /// The run program's room.
 const CELLS: Cells = Cells { stack: 256, outputs: 256 };
 
+fn folder() -> PathBuf {
+    Path::new(env!("CARGO_MANIFEST_DIR")).join("../../examples")
+}
+
 fn jobs() -> Vec<PathBuf> {
-    let folder = Path::new(env!("CARGO_MANIFEST_DIR")).join("../../examples");
-    let entries = fs::read_dir(folder).expect("the folder of examples");
+    let entries = fs::read_dir(folder()).expect("the folder of examples");
     let paths = entries.map(|entry| entry.expect("an entry").path());
     paths.filter(|path| path.extension().is_some_and(|e| e == "job")).collect()
 }
@@ -47,4 +50,12 @@ fn examples() {
         let job = fs::read(&path).expect("a job");
         assert_eq!(answer(&job), expected(&path), "{}", path.display());
     }
+}
+
+#[test]
+fn a_saved_picture() {
+    let path = folder().join("hello.ppm");
+    let pixels = Pixels::of_p6(&fs::read(&path).expect("a file")).unwrap();
+    let terms = Terms { limit: 1_000, abstract_mode: false, input: b"" };
+    assert_eq!(run_pixels(pixels.picture(), terms, CELLS).unwrap().to_string(), expected(&path));
 }

@@ -1,5 +1,5 @@
 //! Memory that can't be had is an error: for lengths that no machine has, and at every single request.
-use piet::{run_pixels, Cells, Error, Picture, Refusal, Shape, Terms};
+use piet::{run_pixels, Cells, Error, Picture, Pixels, Refusal, Shape, Terms};
 use std::alloc::{GlobalAlloc, Layout, System};
 use std::cell::Cell;
 
@@ -36,22 +36,34 @@ const SHAPE: Shape = Shape { height: 1, width: 5, codel: 1 };
 const TERMS: Terms = Terms { limit: 4, abstract_mode: false, input: b"65\n" };
 const CELLS: Cells = Cells { stack: 8, outputs: 8 };
 
-/// The answer where so many requests are granted.
-fn granted(requests: usize) -> Result<piet::Told, Error> {
+/// The answer of a call where so many requests are granted.
+fn granted<T>(requests: usize, call: impl FnOnce() -> Result<T, Error>) -> Result<T, Error> {
     GRANTED.set(Some(requests));
-    let told = run_pixels(Picture::of(&PIXELS, SHAPE), TERMS, CELLS);
+    let answer = call();
     GRANTED.set(None);
-    told
+    answer
 }
 
 /// Eight slices and the outputs: nine requests, and each may fail.
 #[test]
 fn every_request_may_fail() {
+    let run = || run_pixels(Picture::of(&PIXELS, SHAPE), TERMS, CELLS);
     for requests in 0..9 {
-        assert_eq!(granted(requests), Err(Error::Memory), "with {requests} granted");
+        assert_eq!(granted(requests, run), Err(Error::Memory), "with {requests} granted");
     }
-    let told = granted(9).unwrap();
+    let told = granted(9, run).unwrap();
     assert_eq!(told.to_string(), "status 2\nsteps 4\nat LightRed_0_4 0 0\nstack 0\nout 2 c65 i65\n");
+}
+
+/// A file that is read, and one that is written, is one request each.
+#[test]
+fn every_request_for_a_file_may_fail() {
+    let written = || Picture::of(&PIXELS, SHAPE).to_p6();
+    assert_eq!(granted(0, written), Err(Error::Memory));
+    let file = granted(1, written).unwrap();
+    let read = || Pixels::of_p6(&file);
+    assert_eq!(granted(0, read), Err(Error::Memory));
+    assert_eq!(granted(1, read).unwrap().bytes, PIXELS);
 }
 
 #[test]
@@ -63,6 +75,17 @@ fn lengths_that_no_machine_has() {
         assert_eq!(run_pixels(picture, TERMS, Cells { stack: cells, ..CELLS }), Err(Error::Memory));
         assert_eq!(run_pixels(picture, TERMS, Cells { outputs: cells, ..CELLS }), Err(Error::Memory));
     }
+}
+
+/// A file of any length asks for no more than the pixels of the largest picture.
+#[test]
+fn files_longer_than_any_picture() {
+    let mut file = b"P6 1024 1024 255\n".to_vec();
+    let most = 3 * 1_024 * 1_024;
+    file.resize(file.len() + most, 7);
+    assert!(Pixels::of_p6(&file).unwrap().bytes.capacity() <= most);
+    file.push(7);
+    assert_eq!(Pixels::of_p6(&file), Err(Error::Refused(Refusal::Length)));
 }
 
 /// Sides of any size ask for no more than an accepted picture.

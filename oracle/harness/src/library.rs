@@ -103,6 +103,26 @@ extern "C" {
         answer: *mut u64,
         answer_length: usize,
     ) -> u32;
+    #[cfg(feature = "p6")]
+    fn piet_read_p6(
+        file: *const u8,
+        file_length: usize,
+        pixels: *mut u8,
+        pixels_length: usize,
+        answer: *mut u64,
+        answer_length: usize,
+    ) -> u32;
+    #[cfg(feature = "p6")]
+    fn piet_write_p6(
+        pixels: *const u8,
+        pixels_length: usize,
+        height: usize,
+        width: usize,
+        file: *mut u8,
+        file_length: usize,
+        answer: *mut u64,
+        answer_length: usize,
+    ) -> u32;
 }
 
 #[cfg(feature = "classify")]
@@ -281,4 +301,23 @@ pub fn run_picture(
             answer.len(),
         )
     }
+}
+
+#[cfg(feature = "p6")]
+pub fn read_p6(file: &[u8], pixels: &mut [u8], answer: &mut [u64]) -> u32 {
+    let (f, p, a) = (file.as_ptr(), pixels.as_mut_ptr(), answer.as_mut_ptr());
+    // SAFETY: each pointer comes with the length of its slice
+    unsafe { piet_read_p6(f, file.len(), p, pixels.len(), a, answer.len()) }
+}
+
+#[cfg(feature = "p6")]
+pub fn write_p6(
+    pixels: &[u8],
+    (height, width): (usize, usize),
+    file: &mut [u8],
+    answer: &mut [u64],
+) -> u32 {
+    let (p, f, a) = (pixels.as_ptr(), file.as_mut_ptr(), answer.as_mut_ptr());
+    // SAFETY: each pointer comes with the length of its slice
+    unsafe { piet_write_p6(p, pixels.len(), height, width, f, file.len(), a, answer.len()) }
 }

@@ -1,5 +1,6 @@
-//! Numbers that the types of the safe calls rule out are refused by the archive too.
-use super::{classify, label, run_picture};
+//! What the safe calls do not show: numbers that their types rule out are refused by the archive too, and the answers of
+//! refused calls.
+use super::{classify, label, read_p6, run_picture, write_p6};
 use crate::{PictureRoom, RunRoom, Shape, TableRoom, Terms, LABEL};
 
 const RED: [u8; 3] = [0xFF, 0, 0];
@@ -37,6 +38,15 @@ fn settings_above_3_for_a_picture() {
     }
     assert_eq!((colours, kinds, map, rows, exits), ([7], [7], [7], [7; 5], [7; 8]));
     assert_eq!((work, stack, values), ([7], [7], [7]));
+}
+
+/// A refused call leaves zeros in the answer, whatever stood there.
+#[test]
+fn refused_files() {
+    let (mut lent, mut sides, mut length) = ([7; 16], [7; 2], [7; 1]);
+    assert_eq!(read_p6(b"P6 1 1 255\nab", &mut lent, &mut sides), 14);
+    assert_eq!(write_p6(b"ab", (1, 1), &mut lent, &mut length), 2);
+    assert_eq!((lent, sides, length), ([7; 16], [0; 2], [0]));
 }
 
 #[test]

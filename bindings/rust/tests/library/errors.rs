@@ -1,7 +1,7 @@
 //! Refusals and errors: numbers and texts.
 use piet::{Colour, Error, Refusal, Unknown};
 
-const REFUSALS: [Refusal; 11] = [
+const REFUSALS: [Refusal; 13] = [
     Refusal::Size,
     Refusal::Bytes,
     Refusal::Setting,
@@ -13,11 +13,13 @@ const REFUSALS: [Refusal; 11] = [
     Refusal::White,
     Refusal::Table,
     Refusal::Label,
+    Refusal::Header,
+    Refusal::Length,
 ];
 
 #[test]
 fn numbers() {
-    assert_eq!(REFUSALS.map(Refusal::number), [1, 2, 3, 4, 5, 6, 7, 8, 9, 10, 12]);
+    assert_eq!(REFUSALS.map(Refusal::number), [1, 2, 3, 4, 5, 6, 7, 8, 9, 10, 12, 13, 14]);
 }
 
 #[test]

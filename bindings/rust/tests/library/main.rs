@@ -5,6 +5,7 @@ mod errors;
 mod exits;
 mod labels;
 mod numbers;
+mod p6;
 mod pictures;
 mod shapes;
 mod support;
