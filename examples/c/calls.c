@@ -1,6 +1,7 @@
 /*
- * Every function of the library, with each argument by its name in piet.h: once done, and once refused for too short an
- * answer. The calls are those of the program crates/c_calls, which makes them by position, and so is what is printed:
+ * Every function of the library, with each argument by its name in piet.h: once done, once refused for too short an answer,
+ * and some refused for another reason. The calls are those of the program crates/c_calls, which makes them by position, and
+ * so is what is printed:
  *
  *     rt staticlib piet_c
  *     gcc examples/c/calls.c -Iinclude -Ltarget/staticlib -lpiet_c -o calls
