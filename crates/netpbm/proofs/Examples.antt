@@ -9,8 +9,8 @@ use Rattle.netpbm.specs.Scan.{goesOn, commentAfter, pastGap, pastDigits,
 use Rattle.netpbm.specs.Reads.{answer, refusals}
 use Rattle.netpbm.proofs.Scanned.{partOf, scanned}
 
-abbrev says : List ℕ → Numbers
-says file = answer (scanned file) 9
+abbrev answered : List ℕ → Numbers
+answered file = answer (scanned file) 9
 
 abbrev sized : ℕ → ℕ → Numbers
 sized height width = numbers 0 (height ∷ width ∷ [])
@@ -20,7 +20,7 @@ refused number = numbers number (0 ∷ 0 ∷ [])
 
 -- done: one comment as the only separator, comments with a `#` and a return in them, white space of each kind, a
 -- comment between two numbers, leading zeros, a maximum of four digits, pixels that look like a comment
-done : map says
+done : map answered
     (ascii "P6 1 1 255\nabc"
     ∷ ascii "P6#\n1#\n1#\n255\nabc"
     ∷ ascii "P6 # a # b\r c\n\t1\r\n1 255\rabc"
@@ -36,7 +36,7 @@ done = refl
 
 -- 13: a vertical tab, no gap, a blank before it, a return that ends no comment, a comment after the maximum, none of the
 -- last byte, a sign, other maxima, the maximum before the size
-header : map says
+header : map answered
     ((80 ∷ 54 ∷ 11 ∷ ascii "1 1 255\nabc")
     ∷ ascii "P61 1 255\nabc"
     ∷ ascii " P6 1 1 255\nabc"
@@ -52,7 +52,7 @@ unfolding answer refusals first scanned partOf pastGap goesOn commentAfter heade
 header = refl
 
 -- 1: no side, 2 ^ 64 + 1; 14: too few, too many, before the room; 4
-others : map says
+others : map answered
     (ascii "P6 0 0 255\n"
     ∷ ascii "P6 18446744073709551617 1 255\nabc"
     ∷ ascii "P6 1025 1 255\n"

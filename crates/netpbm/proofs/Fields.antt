@@ -9,20 +9,20 @@ use Rattle.base.proofs.Tests.{and-both}
 use Rattle.base.proofs.Digits.{is-numeral, numeral-some, numeral-all}
 use Rattle.netpbm.specs.declared.field.Number.{Number}
 use Rattle.base.specs.Text.{digit, allDigits, valueAfter}
-use Rattle.netpbm.specs.File.{Spaces, Field}
+use Rattle.netpbm.specs.File.{Spacing, Field}
 use Rattle.netpbm.specs.Scan.{pastGap, pastDigits, valueOf, capped, stops, GapEnd, NumberEnd, FieldAt}
 use Rattle.netpbm.proofs.Gaps.{past-gap, gap-stops, gap-split}
 use Rattle.netpbm.proofs.Digits.{past-digits, value-digits, digits-split}
 
 -- a gap ends where a number begins
-past-to : {g : List ℕ} → Spaces g → (text after : List ℕ) → 0 < length text → allDigits text ≡ true → pastGap false (g ++ (text ++ after)) ≡ text ++ after
+past-to : {g : List ℕ} → Spacing g → (text after : List ℕ) → 0 < length text → allDigits text ≡ true → pastGap false (g ++ (text ++ after)) ≡ text ++ after
 unfolding allDigits
 past-to s [] after h a = absurd (omega arith)
 past-to s (b ∷ text) after h a = past-gap s b (text ++ after) (and-both (digit b) (allDigits text) a .0)
 
 module _ {l : List ℕ} {n : ℕ} {after : List ℕ} (f : Field l n after) where
   pub field-text : pastGap false l ≡ f .text ++ after
-  field-text = rw (f .is) (past-to (f .apart .spaces) (f .text) after (numeral-some (f .text) (f .number)) (numeral-all (f .text) (f .number)))
+  field-text = rw (f .is) (past-to (f .apart .spacing) (f .text) after (numeral-some (f .text) (f .number)) (numeral-all (f .text) (f .number)))
 
   pub field-rest : stops after ≡ true → pastDigits (pastGap false l) ≡ after
   field-rest s = rw field-text (past-digits (f .text) after (numeral-all (f .text) (f .number)) s)
@@ -32,7 +32,7 @@ module _ {l : List ℕ} {n : ℕ} {after : List ℕ} (f : Field l n after) where
 
   -- what begins with a field begins with no digit
   pub field-stops : stops l ≡ true
-  field-stops = rw (f .is) (gap-stops (f .apart .spaces) (f .apart .some) (f .text ++ after))
+  field-stops = rw (f .is) (gap-stops (f .apart .spacing) (f .apart .some) (f .text ++ after))
 
   -- a field has a gap, and a number
   pub field-gap : length (pastGap false l) < length l
@@ -65,7 +65,7 @@ module _ (l : List ℕ) (gap : length (pastGap false l) < length l)
       record {
         gap = s .0;
         text = t .0;
-        apart = record { some = omega arith; spaces = s .1 };
+        apart = record { some = omega arith; spacing = s .1 };
         number = is-numeral (t .0) (omega arith) (t .1);
         value = v;
         is = s .2 ∙ ap (λ (x : List ℕ). s .0 ++ x) (t .2);

@@ -11,7 +11,7 @@ use lib.Seq.{drop-cons}
 use native.Mathlib.Numerals.{add-one}
 use Rattle.base.proofs.Tests.{and-both}
 use Rattle.base.specs.Text.{digit}
-use Rattle.netpbm.specs.File.{headerWhite, oneLine, Spaces, none, blank, comment}
+use Rattle.netpbm.specs.File.{headerWhite, oneLine, Spacing, none, white, comment}
 use Rattle.netpbm.specs.Scan.{goesOn, commentAfter, pastGap, stops}
 use Rattle.netpbm.proofs.Bytes.{digit-ends, white-ends, white-plain}
 
@@ -44,28 +44,28 @@ hash-dark : headerWhite 35 ≡ false
 unfolding headerWhite
 hash-dark = refl
 
-pub past-spaces : {g : List ℕ} → Spaces g → (l : List ℕ) → pastGap false (g ++ l) ≡ pastGap false l
-past-spaces (none e) l = rw e
-past-spaces (blank b after w s e) l = rw e (past-white b (after ++ l) w ∙ past-spaces s l)
-past-spaces (comment text after o s e) l =
+pub past-spacing : {g : List ℕ} → Spacing g → (l : List ℕ) → pastGap false (g ++ l) ≡ pastGap false l
+past-spacing (none e) l = rw e
+past-spacing (white b after w s e) l = rw e (past-white b (after ++ l) w ∙ past-spacing s l)
+past-spacing (comment text after o s e) l =
     rw (e, append-assoc text (10 ∷ after) l)
-    (past-hash 35 (text ++ 10 ∷ (after ++ l)) hash-dark refl ∙ past-comment text (after ++ l) o ∙ past-spaces s l)
+    (past-hash 35 (text ++ 10 ∷ (after ++ l)) hash-dark refl ∙ past-comment text (after ++ l) o ∙ past-spacing s l)
 
 -- up to a digit
-pub past-gap : {g : List ℕ} → Spaces g → (b : ℕ) (l : List ℕ) → digit b ≡ true → pastGap false (g ++ b ∷ l) ≡ b ∷ l
-past-gap s b l e = past-spaces s (b ∷ l) ∙ past-none b l (digit-ends b e)
+pub past-gap : {g : List ℕ} → Spacing g → (b : ℕ) (l : List ℕ) → digit b ≡ true → pastGap false (g ++ b ∷ l) ≡ b ∷ l
+past-gap s b l e = past-spacing s (b ∷ l) ∙ past-none b l (digit-ends b e)
 
 -- a gap does not begin with a digit
-pub gap-stops : {g : List ℕ} → Spaces g → 0 < length g → (l : List ℕ) → stops (g ++ l) ≡ true
+pub gap-stops : {g : List ℕ} → Spacing g → 0 < length g → (l : List ℕ) → stops (g ++ l) ≡ true
 unfolding stops digit
 gap-stops (none e) h l = absurd (omega (arith, ap length e))
-gap-stops (blank b after w s e) h l = rw (e, white-ends b w)
+gap-stops (white b after w s e) h l = rw (e, white-ends b w)
 gap-stops (comment text after o s e) h l = rw e
 
 -- what is passed over is a gap, unless a comment in it has no end
 abbrev pub Split : Bool → List ℕ → List ℕ → Type 0
-Split false l r = (g : List ℕ) × Spaces g × (l ≡ g ++ r)
-Split true l r = (text g : List ℕ) × (oneLine text ≡ true) × Spaces g × (l ≡ text ++ 10 ∷ (g ++ r))
+Split false l r = (g : List ℕ) × Spacing g × (l ≡ g ++ r)
+Split true l r = (text g : List ℕ) × (oneLine text ≡ true) × Spacing g × (l ≡ text ++ 10 ∷ (g ++ r))
 
 abbrev pub Splits : Bool → List ℕ → Type 0
 Splits inside l = 0 < length (pastGap inside l) → Split inside l (pastGap inside l)
@@ -91,7 +91,7 @@ unfolding goesOn
 outside b l next true c e k h =
     let p = past-white b l e in
     let s = next false (rw p at h) in
-    (b ∷ s .0, blank b (s .0) e (s .1) refl, rw (p, ← s .2))
+    (b ∷ s .0, white b (s .0) e (s .1) refl, rw (p, ← s .2))
 outside b l next false true e k h =
     let p = past-hash b l e k in
     let s = next true (rw p at h) in (
@@ -113,7 +113,7 @@ split inside [] h = absurd (omega arith)
 split true (b ∷ l) h = within b l (λ s. split s l) (eqb b 10) refl h
 split false (b ∷ l) h = outside b l (λ s. split s l) (headerWhite b) (eqb b 35) refl refl h
 
-pub gap-split : (l : List ℕ) → 0 < length (pastGap false l) → (g : List ℕ) × Spaces g × (l ≡ g ++ pastGap false l)
+pub gap-split : (l : List ℕ) → 0 < length (pastGap false l) → (g : List ℕ) × Spacing g × (l ≡ g ++ pastGap false l)
 gap-split l h = split false l h
 
 -- one turn of the loop that looks for a gap's end

@@ -40,7 +40,7 @@ module _ {file : List ℕ} {height width maximum : ℕ} {pixels : List ℕ} (a :
   height-stops = field-stops (a .most)
 
   pub last-stops : stops (a .last ∷ pixels) ≡ true
-  last-stops = white-stops (a .last) pixels (a .blank)
+  last-stops = white-stops (a .last) pixels (a .white)
 
   module _ {v n : ℕ} (f : FieldAt file 2 v n) where
     first-is : (f .number ≡ width) × (drop n file ≡ a .after-width)
@@ -72,7 +72,7 @@ module _ {file : List ℕ} {height width maximum : ℕ} {pixels : List ℕ} (a :
             ap (λ (i : ℕ). getD file i 0) (sym (add-zero n₃))
             ∙ sym (getD-drop n₃ file 0 0)
             ∙ ap (λ (l : List ℕ). getD l 0 0) (third-is .1) in
-            rw e (a .blank)
+            rw e (a .white)
 
 pub capped-maximum : capped 255 ≡ 255
 unfolding capped
@@ -103,7 +103,7 @@ whole {file} {v} {n} {v₂} {n₂} {n₃} h p q f g k l w =
             wide = f .field;
             high = g .field;
             most = rw (add-one n₃, ← drop-cons file n₃ 0 l) m;
-            blank = w;
+            white = w;
           };
       height-is = g .value-is;
       width-is = f .value-is;

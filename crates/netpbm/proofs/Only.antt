@@ -92,8 +92,7 @@ done-says {file} {before} {h} {w} nothing u e =
     absurd (true≢false (passed _ 12 _ (h ∷ w ∷ []) _ _ e .0))
 done-says {file} {before} {h} {w} (said h′ w′ p) u e =
     let v : List ℕ = h ∷ w ∷ [] in
-    let s = passed _ 12 _ v _ _ e in
-    let a = passed _ 0 _ v _ _ (s .1) in
+    let a = passed _ 0 _ v _ _ e in
     let b = passed _ 13 _ v _ _ (a .1) in
     let d = passed _ 3 _ v _ _ (b .1) in
     let sides = neither (wrongSide h′) (wrongSide w′) (a .0) in

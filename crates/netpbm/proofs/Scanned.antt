@@ -87,7 +87,7 @@ header-scanned {file} a =
       part-is (first-field a) (width-stops a),
       part-is (a .high) (height-stops a),
       part-is (a .most) (last-stops a),
-      a .blank,
+      a .white,
     )
 
 -- and back: what is computed is there
@@ -97,7 +97,7 @@ contrary e = let z : _≡_ {A = ℕ} 0 1 = cc in omega arith
 record Maximum (x : Part) (h h′ w w′ : ℕ) (p : List ℕ) : Type 0 where
   last : ℕ
   is : x ≡ part 255 (last ∷ p)
-  blank : headerWhite last ≡ true
+  white : headerWhite last ≡ true
   high : h′ ≡ h
   wide : w′ ≡ w
 
@@ -124,7 +124,7 @@ module _ {h w : ℕ} {p : List ℕ} where
           let both = and-both (eqb m 255) (headerWhite b) k in
           let i : m ≡ 255 = eqb-true m 255 (both .0) in
           let r : q ≡ p = cc in
-          record { last = b; is = rw (i, r); blank = both .1; high = cc; wide = cc }
+          record { last = b; is = rw (i, r); white = both .1; high = cc; wide = cc }
 
   height-of : (x : Part) (w′ : ℕ) → heightIn w′ x ≡ said h w p → Height x h w w′ p
   height-of missing w′ e = absurd (contrary e)
@@ -134,7 +134,7 @@ module _ {h w : ℕ} {p : List ℕ} where
       record {
         after = l;
         is = rw i;
-        rest = record { last = m .last; is = m .is; blank = m .blank; high = refl; wide = refl };
+        rest = record { last = m .last; is = m .is; white = m .white; high = refl; wide = refl };
         wide = m .wide;
       }
 
@@ -166,7 +166,7 @@ scanned-header file h w p e = go (magicIn file) refl e
           wide = is-part (drop 2 file) w (x .after) (x .is);
           high = is-part (x .after) h (y .after) (y .is);
           most = is-part (y .after) 255 (z .last ∷ p) (z .is);
-          blank = z .blank;
+          white = z .white;
         }
 
 -- every file says what is computed of it

@@ -10,13 +10,13 @@ use Rattle.base.specs.Text.{ascii, decimal, digit, allDigits, numeral, valueAft
 use Rattle.base.proofs.Decimal.{decimal-length, decimal-value, decimal-numeral}
 use Rattle.base.proofs.Digits.{digit-range, numeral-some, numeral-all}
 use Rattle.base.proofs.Tests.{and-both}
-use Rattle.netpbm.specs.File.{headerWhite, none, blank, Gap, Field, IsP6, line, shortest}
+use Rattle.netpbm.specs.File.{headerWhite, none, white, Gap, Field, IsP6, line, shortest}
 use Rattle.netpbm.proofs.WriteLaws.{one-digit, one-more, shortest-length}
 
 -- one newline is a gap
 newline : Gap (10 ∷ [])
 unfolding headerWhite
-newline = record { some = omega arith; spaces = blank 10 [] refl (none refl) refl }
+newline = record { some = omega arith; spacing = white 10 [] refl (none refl) refl }
 
 field : (text : List ℕ) (n : ℕ) (after : List ℕ) → numeral text ≡ true → n ≡ valueAfter 0 text → Field (10 ∷ (text ++ after)) n after
 field text n after k v = record { gap = 10 ∷ []; text = text; apart = newline; number = k; value = v; is = refl }
@@ -45,7 +45,7 @@ shortest-is height width pixels e =
             wide = side-field width after-width;
             high = side-field height after-height;
             most = maximum-field (10 ∷ pixels);
-            blank = refl;
+            white = refl;
           };
       bytes = e;
     }

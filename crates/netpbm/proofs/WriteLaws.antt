@@ -7,11 +7,11 @@ use borrow.Author.Tests.{ltb-false, eqb-true, not-false}
 use lib.Dec.{eqb}
 use lib.ListN.{length, length-append}
 use Rattle.base.specs.Numbers.{numbers, unlessRefused}
-use Rattle.base.specs.Lent.{Put, Room}
+use Rattle.base.specs.Lent.{lent, Put, Room}
 use Rattle.base.specs.Limits.{wrongSide}
 use Rattle.base.specs.Text.{ascii, decimal}
 use Rattle.base.proofs.Decimal.{decimal-small, decimal-more, decimal-length}
-use Rattle.base.proofs.Over.{room-front, room-back, put-then}
+use Rattle.base.proofs.Over.{room-front, room-back, put-then, over-zero}
 use Rattle.base.proofs.Refusals.{passed, no-row}
 use Rattle.base.proofs.Sides.{side}
 use Rattle.base.proofs.Tests.{neither}
@@ -124,6 +124,6 @@ module _ {d : List ℕ} (height width : ℕ) (pixels : List ℕ) (room : Room d 
           unfolding shortest
           pixels-room = room-back (upto-maximum height width) pixels room put₄
 
-          pub written : {d₅ : List ℕ} {r₅ : ℕ} → Put d₄ r₄ pixels r₅ d₅ → Put d 0 (shortest height width pixels) r₅ d₅
+          pub written : {d₅ : List ℕ} {r₅ : ℕ} → Put d₄ r₄ pixels r₅ d₅ → d₅ ≡ lent (shortest height width pixels) d
           unfolding shortest
-          written p₅ = put-then room put₄ p₅
+          written p₅ = put-then room put₄ p₅ .list ∙ over-zero d (shortest height width pixels)

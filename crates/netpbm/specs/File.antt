@@ -17,17 +17,17 @@ oneLine [] = true
 oneLine (b ∷ l) = not (eqb b 0x0A) && oneLine l
 
 -- bytes of white space and comments, none or more of them; a comment goes from `#`, 0x23, through a newline
-pub data Spaces : List ℕ → Type 0 where
-  none : {l : List ℕ} → l ≡ [] → Spaces l
-  blank : {l : List ℕ} (b : ℕ) (after : List ℕ) → headerWhite b ≡ true → Spaces after → l ≡ b ∷ after → Spaces l
-  comment : {l : List ℕ} (text after : List ℕ) → oneLine text ≡ true → Spaces after → l ≡ 0x23 ∷ (text ++ 0x0A ∷ after) → Spaces l
+pub data Spacing : List ℕ → Type 0 where
+  none : {l : List ℕ} → l ≡ [] → Spacing l
+  white : {l : List ℕ} (b : ℕ) (after : List ℕ) → headerWhite b ≡ true → Spacing after → l ≡ b ∷ after → Spacing l
+  comment : {l : List ℕ} (text after : List ℕ) → oneLine text ≡ true → Spacing after → l ≡ 0x23 ∷ (text ++ 0x0A ∷ after) → Spacing l
 
 -- what stands before a number: one or more of them
 pub record Gap (l : List ℕ) : Type 0 where
   pub some : 0 < length l
-  pub spaces : Spaces l
+  pub spacing : Spacing l
 
--- a list begins with a gap and a number; what stands after them. A number is digits, of any count, with their value (rule 15.3)
+-- l is a gap, then a number, which is digits of any count with the value n (rule 15.3), and then what stands after
 pub record Field (l : List ℕ) (n : ℕ) (after : List ℕ) : Type 0 where
   pub gap : List ℕ
   pub text : List ℕ
@@ -46,7 +46,7 @@ pub record IsHeader (file : List ℕ) (height width maximum : ℕ) (pixels : Lis
   pub wide : Field after-magic width after-width
   pub high : Field after-width height after-height
   pub most : Field after-height maximum (last ∷ pixels)
-  pub blank : headerWhite last ≡ true
+  pub white : headerWhite last ≡ true
 
 -- a file is a picture of this size with these pixel bytes, three a pixel
 pub record IsP6 (file : List ℕ) (height width : ℕ) (pixels : List ℕ) : Type 0 where

@@ -1,6 +1,6 @@
 -- What reading a P6 file answers and leaves (rules 12.9, 15.4). Assumes nothing.
 use mathlib.Core.Path.{_≡_}
-use mathlib.Core.Bool.{Bool, true, false, not, _||_}
+use mathlib.Core.Bool.{true, not, _||_}
 use mathlib.Core.List.{List, [], _∷_}
 use Prim.Native.Nat.{ℕ, _*_}
 use lib.Dec.{eqb, ltb}
@@ -29,33 +29,27 @@ abbrev pub Says : List ℕ → Said → Type 0
 Says file nothing = (height width : ℕ) (pixels : List ℕ) → IsHeader file height width 255 pixels → ⊥
 Says file (said height width pixels) = IsHeader file height width 255 pixels
 
-abbrev pub saysNothing : Said → Bool
-saysNothing nothing = true
-saysNothing (said height width pixels) = false
-
-abbrev pub heightOf : Said → ℕ
-heightOf nothing = 0
-heightOf (said height width pixels) = height
-
-abbrev pub widthOf : Said → ℕ
-widthOf nothing = 0
-widthOf (said height width pixels) = width
+-- the height and the width that are said, and the bytes
+abbrev pub sidesOf : Said → List ℕ
+sidesOf nothing = 0 ∷ 0 ∷ []
+sidesOf (said height width pixels) = height ∷ width ∷ []
 
 abbrev pub pixelsOf : Said → List ℕ
 pixelsOf nothing = []
 pixelsOf (said height width pixels) = pixels
 
--- 13 for no such header, 1 for a side out of bounds, 14 for too few or too many pixel bytes, 4 for too little room (rule 12.9)
+-- 13 where nothing is said; else 1 for a side out of bounds, 14 for too few or too many pixel bytes, 4 for too little room (rule
+-- 12.9)
 unfoldable pub refusals : Said → ℕ → List Row
-refusals s room =
-    row (saysNothing s) (numbers 13 (0 ∷ 0 ∷ []))
-    ∷ row (wrongSide (heightOf s) || wrongSide (widthOf s)) (numbers 1 (0 ∷ 0 ∷ []))
-    ∷ row (not (eqb (length (pixelsOf s)) (3 * (heightOf s * widthOf s)))) (numbers 14 (0 ∷ 0 ∷ []))
-    ∷ row (ltb room (3 * (heightOf s * widthOf s))) (numbers 4 (0 ∷ 0 ∷ []))
+refusals nothing room = row true (numbers 13 (0 ∷ 0 ∷ [])) ∷ []
+refusals (said height width pixels) room =
+    row (wrongSide height || wrongSide width) (numbers 1 (0 ∷ 0 ∷ []))
+    ∷ row (not (eqb (length pixels) (3 * (height * width)))) (numbers 14 (0 ∷ 0 ∷ []))
+    ∷ row (ltb room (3 * (height * width))) (numbers 4 (0 ∷ 0 ∷ []))
     ∷ []
 
 unfoldable pub answer : Said → ℕ → Numbers
-answer s room = first (refusals s room) (numbers 0 (heightOf s ∷ widthOf s ∷ []))
+answer s room = first (refusals s room) (numbers 0 (sidesOf s))
 
 -- by what the file says: its answer, and its pixel bytes at the start of what is lent
 pub record Outcome (file before : List ℕ) (r : Read) (after : List ℕ) : Type 0 where

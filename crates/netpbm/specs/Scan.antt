@@ -36,7 +36,7 @@ unfoldable pub valueOf : ℕ → List ℕ → ℕ
 valueOf n [] = n
 valueOf n (b ∷ l) = cond (digit b) (valueOf (n * 10 + (b - 0x30)) l) n
 
--- a value above every side and the maximum stands for all of them
+-- every value from 1,025 on is kept as 1,025: no side in bounds and no right maximum is as large
 abbrev pub cap : ℕ
 cap = 1025
 

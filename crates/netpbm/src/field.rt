@@ -6,7 +6,8 @@ ghost use Rattle.base.specs.Text.{digit};
 ghost use Rattle.netpbm.specs.File.{headerWhite};
 ghost use Rattle.netpbm.specs.Scan.{goesOn, commentAfter, cap, capped, GapEnd, NumberEnd, Finds};
 
-// Stands for every value that is as large: no side and no maximum is. So a number of any length is read without wrapping.
+// Every value from here on is kept as this one: no side in bounds and no right maximum is as large. So a number of any length
+// is read without wrapping.
 const CAP: usize = 1025;
 
 // A number at an index: its value, no more than CAP, and the index after its digits.

@@ -26,16 +26,17 @@ pub enum Heading {
     Malformed,
 }
 
+// `P6`, 0x50 and 0x36, and what has to follow it.
 fn heading_of(file: &[u8]) -> Heading
     ensures { λ r. ⌜ Heads (now (file .entry)) r ⌝ }
 {
     if file.len() < 2 {
         return Heading::Malformed;
     }
-    if file[0] != 80 {
+    if file[0] != 0x50 {
         return Heading::Malformed;
     }
-    if file[1] != 54 {
+    if file[1] != 0x36 {
         return Heading::Malformed;
     }
     let Found::At(width) = field_at(file, 2) else {

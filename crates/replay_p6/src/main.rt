@@ -1,41 +1,19 @@
-// Replays stored answers of reading and writing P6 files. `stdin` holds cases: a byte for the kind (0 reads, 1 writes), then
-// in two bytes each, the lower first, the room that is lent, the height, the width and a length, and so many bytes, the file
-// or the pixels. `stdout` has a line for each: `r` or `w`, the number of the answer, its values where it is done, a colon, and
-// the lent bytes after the call, which were all 7 before it.
+// Replays stored answers of reading and writing P6 files from C. `stdin` holds cases: a byte for the kind (0 reads, 1 writes),
+// then in two bytes each, the lower first, the room that is lent, the height, the width and a length, and so many bytes, the
+// file or the pixels. `stdout` has a line for each: `r` or `w`, the number that was returned, the cells of the answer, a colon,
+// and the lent bytes after the call, which were all 7 before it.
 ghost use Prim.Native.Nat.{_+_, _<_, _≤_};
 ghost use lib.ListN.{length};
 use libc::STDIN_FILENO;
 use libc::STDOUT_FILENO;
-use netpbm::reading::Read;
-use netpbm::reading::read_p6;
-use netpbm::writing::Written;
-use netpbm::writing::write_p6;
+use piet_c::p6::piet_read_p6;
+use piet_c::p6::piet_write_p6;
 
-fn print_read(r: Read) {
-    io::write_all(STDOUT_FILENO, b"r");
-    match r {
-        Read::Done { height, width } => {
-            stored::print_number(0);
-            stored::print_number(height as u64);
-            stored::print_number(width as u64);
-        }
-        Read::Header => stored::print_number(13),
-        Read::Size => stored::print_number(1),
-        Read::Length => stored::print_number(14),
-        Read::Room => stored::print_number(4),
-    }
-}
-
-fn print_written(r: Written) {
-    io::write_all(STDOUT_FILENO, b"w");
-    match r {
-        Written::Done { length } => {
-            stored::print_number(0);
-            stored::print_number(length as u64);
-        }
-        Written::Size => stored::print_number(1),
-        Written::Bytes => stored::print_number(2),
-        Written::Room => stored::print_number(4),
+fn print_cells(cells: &[u64]) {
+    let mut i = 0;
+    while i < cells.len() {
+        stored::print_number(cells[i]);
+        i += 1;
     }
 }
 
@@ -49,14 +27,23 @@ fn print_bytes(s: &[u8]) {
     io::write_all(STDOUT_FILENO, b"\n");
 }
 
+fn print_line(call: &[u8], number: u32, answer: &[u64], lent: &[u8]) {
+    io::write_all(STDOUT_FILENO, call);
+    stored::print_cell(number);
+    print_cells(answer);
+    print_bytes(lent);
+}
+
 fn print_case(kind: u8, height: usize, width: usize, body: &[u8], lent: &mut [u8]) {
     if kind == 0 {
-        print_read(read_p6(body, lent));
-        print_bytes(lent);
+        let mut sides = [7u64; 2];
+        let number = piet_read_p6(body, lent, &mut sides);
+        print_line(b"r", number, &sides, lent);
         return;
     }
-    print_written(write_p6(body, height, width, lent));
-    print_bytes(lent);
+    let mut size = [7u64; 1];
+    let number = piet_write_p6(body, height, width, lent, &mut size);
+    print_line(b"w", number, &size, lent);
 }
 
 // Two bytes as a number.
