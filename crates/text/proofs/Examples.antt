@@ -53,32 +53,32 @@ int = refl
 
 -- signs and zeros
 plus-five : parsed (ascii "+5") ≡ Value (pos 5)
-unfolding within digit allDigits numeral valueAfter magnitudeOf sign parsed
+unfolding digit allDigits numeral valueAfter magnitudeOf sign parsed
 plus-five = refl
 
 minus-zero : parsed (ascii "-0") ≡ Value (pos 0)
-unfolding within digit allDigits numeral valueAfter magnitudeOf sign parsed
+unfolding digit allDigits numeral valueAfter magnitudeOf sign parsed
 minus-zero = refl
 
 zeros : parsed (ascii "007") ≡ Value (pos 7)
-unfolding within digit allDigits numeral valueAfter magnitudeOf sign parsed
+unfolding digit allDigits numeral valueAfter magnitudeOf sign parsed
 zeros = refl
 
 alone : parsed (ascii "+") ≡ NotANumber
-unfolding within digit allDigits numeral valueAfter magnitudeOf sign parsed
+unfolding digit allDigits numeral valueAfter magnitudeOf sign parsed
 alone = refl
 
 twice : parsed (ascii "--1") ≡ NotANumber
-unfolding within digit allDigits numeral valueAfter magnitudeOf sign parsed
+unfolding digit allDigits numeral valueAfter magnitudeOf sign parsed
 twice = refl
 
 -- the ends of i64: -2^63, and 2^63
 least : parsed (ascii "-9223372036854775808") ≡ Value (negsuc 9223372036854775807)
-unfolding within digit allDigits numeral valueAfter magnitudeOf sign parsed
+unfolding digit allDigits numeral valueAfter magnitudeOf sign parsed
 least = refl
 
 past : parsed (ascii "9223372036854775808") ≡ NotANumber
-unfolding within digit allDigits numeral valueAfter magnitudeOf sign parsed
+unfolding digit allDigits numeral valueAfter magnitudeOf sign parsed
 past = refl
 
 -- ` -12`, newline, `7`: the line is taken and -12 pushed. A line with a lone continuation byte is refused
