@@ -40,7 +40,7 @@ enum piet_refusal {
     PIET_REFUSED_SIZE = 1,     /* height or width 0 or above 1,024 */
     PIET_REFUSED_BYTES = 2,    /* pixels not 3 x height x width bytes, or colours not height x width */
     PIET_REFUSED_SETTING = 3,  /* a setting for unknown pixels above 3 */
-    PIET_REFUSED_ROOM = 4,     /* colours, map, rows, exits, work, a P6's pixels or bytes, or answer too short */
+    PIET_REFUSED_ROOM = 4,     /* too short: colours, map, rows, exits, work, a P6 call's pixels or file, or answer */
     PIET_REFUSED_PIXEL = 5,    /* settings 0 and 1: a pixel that is none of the twenty colours; its row and column */
     PIET_REFUSED_CODEL = 6,    /* codel width 0 or above 1,024 */
     PIET_REFUSED_GRID = 7,     /* more than 65,536 codels */
