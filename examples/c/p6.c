@@ -14,7 +14,7 @@
 #include "piet.h"
 #include "told.h"
 
-/* Room for every picture there is, of which one pixel is a codel; a file may have 4 MB, long comments included. */
+/* Room for the largest picture; each pixel is a codel. A file may have 4 MB, long comments included. */
 enum { SIDE = 1024, CODEL = 1, CODELS = 65536, FILE_ROOM = 4 << 20, STACK = 256, OUTPUTS = 256, LIMIT = 1000000 };
 
 static uint8_t file[FILE_ROOM], pixels[3 * SIDE * SIDE], colours[SIDE * SIDE], kinds[OUTPUTS];
@@ -49,8 +49,10 @@ static size_t load(const char *name)
     if (!stream)
         die("can't open", name);
     size_t length = fread(file, 1, FILE_ROOM, stream);
-    if (ferror(stream) || length == FILE_ROOM)
-        die("can't read, or too long", name);
+    if (ferror(stream))
+        die("can't read", name);
+    if (length == FILE_ROOM)
+        die("too long", name);
     fclose(stream);
     return length;
 }

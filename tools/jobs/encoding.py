@@ -115,13 +115,13 @@ class Refusal(NamedTuple):
 
 
 def size_refusals(job):
-    """Those that no pixel is looked at for. Too many pixels are said to be that, whichever test they fail first."""
-    count, fits = job.height * job.width, all(1 <= side <= LONGEST_SIDE for side in (job.height, job.width))
-    if job.has_its_pixels() and count > MOST_PIXELS:
-        number = 11 if job.size() > LONGEST_JOB else 4 if fits else 1
-        room = f"the run program has room for {MOST_PIXELS} (refused {number})"
+    """Those that no pixel is looked at for. A job that too many pixels make too long is said to have too many."""
+    count, long = job.height * job.width, job.size() > LONGEST_JOB
+    fits = all(1 <= side <= LONGEST_SIDE for side in (job.height, job.width))
+    if job.has_its_pixels() and count > MOST_PIXELS and (long or fits):
+        room = f"the run program has room for {MOST_PIXELS} (refused {11 if long else 4})"
         yield Refusal("size", f"{job.sides()} pixels are {count}, and {room}")
-    if job.size() > LONGEST_JOB:
+    if long:
         yield Refusal("job", f"the job has {job.size()} bytes, and a job has at most {LONGEST_JOB} (refused 11)")
     if not fits:
         yield Refusal("size", f"{job.sides()} pixels, and {SIDES} (refused 1)")

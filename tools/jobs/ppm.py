@@ -1,9 +1,13 @@
 """PPM pictures, P3 and P6, and the names of files that are something else."""
 import re
 
-from .encoding import SIDES, Picture
+from .encoding import MOST_PIXELS, SIDES, Picture
 from .files import Wrong, cut, quoted
+from .settings import WIDEST_SHRINK
 from .source import Source
+
+# A longer side leaves more pixels than the run program has room for, whatever --shrink says.
+LONGEST_DRAWN = MOST_PIXELS * WIDEST_SHRINK
 
 # What a file of another kind begins with.
 OTHERS = {
@@ -30,7 +34,8 @@ def is_ppm(data):
     return data[:2] in (b"P3", b"P6")
 
 
-WHITE_SPACE = re.compile(rb"[ \t\r\n]*")
+WHITE_SPACE = (b" ", b"\t", b"\r", b"\n")
+SPACES = re.compile(rb"[ \t\r\n]*")
 DIGITS = re.compile(rb"[0-9]+")
 EXPORT = 'export the picture as PPM, "raw" or "binary" (P6), with 8 bits a channel'
 
@@ -38,13 +43,31 @@ EXPORT = 'export the picture as PPM, "raw" or "binary" (P6), with 8 bits a chann
 def after_gap(data, at):
     """Where the white space and the comments that begin here end. A comment goes from # through a newline; without
     that it is none."""
-    at = WHITE_SPACE.match(data, at).end()
+    at = SPACES.match(data, at).end()
     while data[at : at + 1] == b"#":
         newline = data.find(b"\n", at)
         if newline < 0:
             return at
-        at = WHITE_SPACE.match(data, newline + 1).end()
+        at = SPACES.match(data, newline + 1).end()
     return at
+
+
+def refuse_late_start(data):
+    """A PPM begins with its kind; with something before that it is none."""
+    start = after_gap(data, 0)
+    kind = data[start : start + 2]
+    if start and is_ppm(kind):
+        raise Wrong(f"{kind.decode()} has to be the first two bytes, with no white space and no comment before it")
+
+
+def missing_number(data, name, at, start):
+    """What is said where no number follows the gap between these places. Digits in a gap stand in a comment, which may
+    go on for longer than whoever wrote it meant."""
+    kind, hint = data[:2].decode(), ""
+    if data[start : start + 1] == b"#" or re.search(rb"[#\s][0-9]+\s", data[at:start]):
+        hint = " (a comment goes through the next newline, and a return does not end it)"
+    form = f"a header is {kind}, width, height and 255, with white space or comments between them"
+    return Wrong(f"the {kind} header has no {name} at byte {at}{hint}; {form}: {EXPORT}")
 
 
 def header(data):
@@ -54,12 +77,11 @@ def header(data):
         start = after_gap(data, at)
         digits = DIGITS.match(data, start) if start > at else None
         if not digits:
-            form = f"{kind}, width, height and 255 stand there, with white space or whole comments between them"
-            raise Wrong(f"the {kind} header has no {name} at byte {at}; {form}: {EXPORT}")
+            raise missing_number(data, name, at, start)
         fields.append((digits[0].lstrip(b"0") or b"0").decode())
         at = digits.end()
     last = data[at : at + 1]
-    if not WHITE_SPACE.match(last).end():
+    if last not in WHITE_SPACE:
         found = {b"": "the end of the file", b"#": "a comment"}.get(last, f"the byte 0x{last.hex()}")
         raise Wrong(f"after the maximum of the {kind} header comes one white space byte, found {found}: {EXPORT}")
     return fields, at + 1
@@ -67,32 +89,39 @@ def header(data):
 
 def side(name, digits):
     """A side that a file might have; one that is above 1,024 may still be shrunk."""
-    if len(digits) > 9:
-        raise Wrong(f"the PPM's {name} is {cut(digits)}, and {SIDES}")
+    # Python makes no number of some thousands of digits, so their count comes first.
+    if len(digits) > len(str(LONGEST_DRAWN)) or int(digits) > LONGEST_DRAWN:
+        raise Wrong(f"the PPM's {name} is {cut(digits)}, and {SIDES}; no --shrink makes it small enough")
     return int(digits)
+
+
+def byte_of(word):
+    """The byte that a word of a P3 says; None where it says none."""
+    digits = re.fullmatch(rb"0*([0-9]{1,3})", word)
+    return int(digits[1]) if digits and int(digits[1]) < 256 else None
 
 
 def numbers(data, width):
     """The bytes that the numbers of a P3 say."""
     words = re.sub(rb"#[^\n]*", b"", data).split()
-    wrong = {word for word in set(words) if not re.fullmatch(rb"[0-9]{1,9}", word) or int(word) > 255}
-    if wrong:
-        at = next(at for at, word in enumerate(words) if word in wrong)
+    values = {word: byte_of(word) for word in set(words)}
+    if None in values.values():
+        at = next(at for at, word in enumerate(words) if values[word] is None)
         row, column = divmod(at // 3, width)
         place = f"at row {row}, column {column} (counted from 0)"
         raise Wrong(f"{quoted(words[at].decode(errors='replace'))} {place} is no number from 0 to 255")
-    return bytes(map(int, words))
+    return bytes(values[word] for word in words)
 
 
 def remark(data, at, more):
     """What may have happened to a P6 with so many bytes more than its pixels have."""
-    if data[:2] != b"P6":
-        return ""
     if more < 0:
-        return "; the file is cut"
-    if more == 1 and data[at - 1 : at + 1] == b"\r\n":
-        return "; the return after the maximum is the one white space byte, and the newline after it is one too many"
-    return "; nothing may follow the last pixel"
+        return "the file is cut"
+    if data[at - 1 : at + 1] == b"\r\n":
+        return "it was saved with line ends changed, so that pixels may have changed too: export it again"
+    if data[at : at + 1] == b"#":
+        return "no comment may stand after the maximum"
+    return "one white space byte stands between the maximum and the pixels, and nothing may follow them"
 
 
 def read_ppm(data, name):
@@ -102,9 +131,11 @@ def read_ppm(data, name):
     height, width = side("height", height), side("width", width)
     if not (height and width):
         raise Wrong(f"the PPM has {height} x {width} pixels, none at all")
-    pixels = data[at:] if data[:2] == b"P6" else numbers(data[at:], width)
+    in_bytes = data[:2] == b"P6"
+    pixels = data[at:] if in_bytes else numbers(data[at:], width)
     needed = 3 * height * width
     if len(pixels) != needed:
-        found = f"the PPM has {len(pixels)} pixel values, and {height} x {width} pixels have {needed}"
-        raise Wrong(found + remark(data, at, len(pixels) - needed))
+        found = f"the PPM has {len(pixels)} pixel {'bytes' if in_bytes else 'values'}"
+        why = f"; {remark(data, at, len(pixels) - needed)}" if in_bytes else ""
+        raise Wrong(f"{found}, and {height} x {width} pixels have {needed}{why}")
     return Source(name, Picture(height, width, pixels))

@@ -5,7 +5,9 @@ from .encoding import CODELS, MODES
 from .files import Wrong, cut, quoted
 
 NAMES = ["codel", "limit", "mode", "input", "input-hex"]
-RANGES = {"codel": CODELS, "limit": "it has to be below 2^64", "shrink": "it has to be 1 to 65535"}
+SHRINK_BITS = 16
+WIDEST_SHRINK = 2**SHRINK_BITS - 1
+RANGES = {"codel": CODELS, "limit": "it has to be below 2^64", "shrink": f"it has to be 1 to {WIDEST_SHRINK}"}
 ESCAPES = {"n": b"\n", "t": b"\t", "r": b"\r", "0": b"\0", "\\": b"\\", '"': b'"'}
 KNOWN_ESCAPES = '\\n \\t \\r \\0 \\\\ \\" and \\xHH are known'
 
@@ -21,7 +23,7 @@ def parse_number(name, word, bits):
 
 
 def parse_shrink(word):
-    number = parse_number("shrink", word, 16)
+    number = parse_number("shrink", word, SHRINK_BITS)
     if number == 0:
         raise Wrong(f"the shrink is 0, and {RANGES['shrink']}")
     return number
