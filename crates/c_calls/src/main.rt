@@ -66,11 +66,7 @@ fn exits() -> [u32; 32] {
 
 fn print_bytes(name: &[u8], bytes: &[u8]) {
     io::write_all(STDOUT_FILENO, name);
-    let mut i = 0;
-    while i < bytes.len() {
-        stored::print_byte(bytes[i]);
-        i += 1;
-    }
+    stored::print_bytes(bytes);
     io::write_all(STDOUT_FILENO, b"\n");
 }
 
@@ -86,11 +82,7 @@ fn print_cells(name: &[u8], cells: &[u32]) {
 
 fn print_numbers(name: &[u8], numbers: &[u64]) {
     io::write_all(STDOUT_FILENO, name);
-    let mut i = 0;
-    while i < numbers.len() {
-        stored::print_number(numbers[i]);
-        i += 1;
-    }
+    stored::print_numbers(numbers);
     io::write_all(STDOUT_FILENO, b"\n");
 }
 

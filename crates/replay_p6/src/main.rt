@@ -9,29 +9,13 @@ use libc::STDOUT_FILENO;
 use piet_c::p6::piet_read_p6;
 use piet_c::p6::piet_write_p6;
 
-fn print_cells(cells: &[u64]) {
-    let mut i = 0;
-    while i < cells.len() {
-        stored::print_number(cells[i]);
-        i += 1;
-    }
-}
-
-fn print_bytes(s: &[u8]) {
-    io::write_all(STDOUT_FILENO, b" :");
-    let mut i = 0;
-    while i < s.len() {
-        stored::print_byte(s[i]);
-        i += 1;
-    }
-    io::write_all(STDOUT_FILENO, b"\n");
-}
-
 fn print_line(call: &[u8], number: u32, answer: &[u64], lent: &[u8]) {
     io::write_all(STDOUT_FILENO, call);
     stored::print_cell(number);
-    print_cells(answer);
-    print_bytes(lent);
+    stored::print_numbers(answer);
+    io::write_all(STDOUT_FILENO, b" :");
+    stored::print_bytes(lent);
+    io::write_all(STDOUT_FILENO, b"\n");
 }
 
 fn print_case(kind: u8, height: usize, width: usize, body: &[u8], lent: &mut [u8]) {

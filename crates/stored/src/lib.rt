@@ -49,3 +49,19 @@ pub fn print_cell(cell: u32) {
 pub fn print_byte(b: u8) {
     print_number(b as u64);
 }
+
+pub fn print_numbers(numbers: &[u64]) {
+    let mut i = 0;
+    while i < numbers.len() {
+        print_number(numbers[i]);
+        i += 1;
+    }
+}
+
+pub fn print_bytes(bytes: &[u8]) {
+    let mut i = 0;
+    while i < bytes.len() {
+        print_byte(bytes[i]);
+        i += 1;
+    }
+}

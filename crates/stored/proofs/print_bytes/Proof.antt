@@ -1,22 +1,16 @@
--- `replay_p6::print_bytes` meets its contract: each byte is printed.
+-- `stored::print_bytes` meets its contract: each byte is printed.
 -- Assumes nothing.
 use Prim.Native.Nat.{_≤_, _-_}
 use lib.ListN.{length}
 use borrow.Author.Needs.{needs}
-use Rattle.replay_p6.proofs.print_bytes.Statement.{statement}
-use Rattle.replay_p6.proofs.print_bytes.Tie as tie
+use Rattle.stored.proofs.print_bytes.Statement.{statement}
+use Rattle.stored.proofs.print_bytes.Tie as tie
 
 abbrev Inv-loop : tie.InvT-loop
-Inv-loop s i₀ t4 i = i ≤ length s
+Inv-loop bytes i₀ i = i ≤ length bytes
 
 abbrev μ-loop : tie.MeasureT-loop
-μ-loop s i₀ t4 i = length s - i
-
-slice-aggregate-write-all : tie.Need-slice-aggregate-write-all Inv-loop μ-loop
-slice-aggregate-write-all c = search needs
-
-write-all-requires : tie.Need-write-all-requires Inv-loop μ-loop
-write-all-requires c κs = search needs
+μ-loop bytes i₀ i = length bytes - i
 
 loop-holds : tie.Need-loop-holds Inv-loop μ-loop
 loop-holds c = search needs
@@ -36,12 +30,6 @@ loop-less c = search needs
 loop-again : tie.Need-loop-again Inv-loop μ-loop
 loop-again c = search needs
 
-slice-aggregate-write-all-2 : tie.Need-slice-aggregate-write-all-2 Inv-loop μ-loop
-slice-aggregate-write-all-2 c = search needs
-
-write-all-requires-2 : tie.Need-write-all-requires-2 Inv-loop μ-loop
-write-all-requires-2 c κs = search needs
-
 returns : tie.Need-returns Inv-loop μ-loop
 returns c = search needs
 
@@ -51,14 +39,10 @@ print-bytes-spec =
     (tie.spec
     Inv-loop
     μ-loop
-    slice-aggregate-write-all
-    write-all-requires
     loop-holds
     shared-slice-read-print-byte
     print-byte-requires
     add-i
     loop-less
     loop-again
-    slice-aggregate-write-all-2
-    write-all-requires-2
     returns)

@@ -1,16 +1,16 @@
--- `replay_p6::print_cells` meets its contract: each cell is printed.
+-- `stored::print_numbers` meets its contract: each number is printed.
 -- Assumes nothing.
 use Prim.Native.Nat.{_≤_, _-_}
 use lib.ListN.{length}
 use borrow.Author.Needs.{needs}
-use Rattle.replay_p6.proofs.print_cells.Statement.{statement}
-use Rattle.replay_p6.proofs.print_cells.Tie as tie
+use Rattle.stored.proofs.print_numbers.Statement.{statement}
+use Rattle.stored.proofs.print_numbers.Tie as tie
 
 abbrev Inv-loop : tie.InvT-loop
-Inv-loop cells i₀ i = i ≤ length cells
+Inv-loop numbers i₀ i = i ≤ length numbers
 
 abbrev μ-loop : tie.MeasureT-loop
-μ-loop cells i₀ i = length cells - i
+μ-loop numbers i₀ i = length numbers - i
 
 loop-holds : tie.Need-loop-holds Inv-loop μ-loop
 loop-holds c = search needs
@@ -36,8 +36,8 @@ loop-again c = search needs
 returns : tie.Need-returns Inv-loop μ-loop
 returns c = search needs
 
-pub print-cells-spec : {M : Type 1} → statement M
-print-cells-spec =
+pub print-numbers-spec : {M : Type 1} → statement M
+print-numbers-spec =
     tie.close
     (tie.spec
     Inv-loop
