@@ -1,6 +1,7 @@
 -- The history of a run.
 --     run-history      a run comes to its end by a list of exits that is as long as the steps made
 --     history-only     so many exits from one place are one list, and lead to one place
+--     history-skips    of each reason as many number lines are counted as its steps skipped for it
 --     history-ends     where they lead is the last of the regions entered
 --     never-max        a step never halts with MaxSteps
 --     at-limit         MaxSteps comes exactly at the limit
@@ -17,12 +18,18 @@ use lib.ListN.{length, getD}
 use Rattle.base.proofs.Clash.{clash}
 use Rattle.machine.specs.declared.Stop.{Stop}
 use Rattle.machine.specs.declared.Stop.the-variants.{Completed, MaxSteps, NeedsInput}
-use Rattle.machine.specs.Machine.{underLimit, Out, keeps, stops, fitting}
+use Rattle.text.specs.declared.number.Reason.{Reason}
+use Rattle.machine.specs.Skips.{countOf, times}
+use Rattle.machine.specs.Machine.{underLimit, Out, keeps, stops, fitting, withPointers}
+use Rattle.machine.specs.Skipped.{skipped}
 use Rattle.machine.specs.Place.{Machine}
-use Rattle.machine.proofs.Fitting.{fit-stops, not-limit, exec-limit}
+use Rattle.machine.proofs.Fitting.{fit-kept, fit-stops, not-limit, exec-limit}
+use Rattle.machine.proofs.Skipping.{exec-counts, skipped-same, times-append}
 use Rattle.table.specs.ExitNumber.{targetOf}
+use Rattle.table.specs.Layout.{sizeOf}
+use Rattle.interpreter.specs.Table.{pointersOf, opOf}
 use Rattle.interpreter.specs.Run.{Job, Went, goes, halts, arrive, exitFrom, effectOf, through, leave, stepOf, after, runOf}
-use Rattle.interpreter.specs.History.{Passes, stays, passes, History, regionsOf}
+use Rattle.interpreter.specs.History.{Passes, stays, passes, reasonsOf, History, regionsOf}
 
 -- what a step that is taken came to
 pub record Kept (j : Job) (m m′ : Machine) : Type 0 where
@@ -85,9 +92,32 @@ module _ (j : Job) where
       go (ends a b) q = clash cc
       go (barred a b k) q = not-limit (fit-stops (j .room) (effectOf j (exitFrom j m) m) k) q
 
+  -- the counts after a step that is kept, and after all of a history
+  step-skips : (m m′ : Machine) → stepOf j m ≡ goes m′ → (why : Reason)
+      → countOf why (m′ .store .reading .skips)
+      ≡ countOf why (m .store .reading .skips) + times why (skipped (j .given) (opOf (exitFrom j m)) (m .store))
+  step-skips m m′ e why =
+      let w = exitFrom j m in
+      let k = step-kept m m′ e in
+      exec-counts (j .given) (sizeOf (j .rows) (m .region)) (opOf w) (withPointers (pointersOf w) (m .store))
+      (fit-kept (j .room) (effectOf j w m) (k .store)) why
+      ∙ ap (λ (ws : List Reason). countOf why (m .store .reading .skips) + times why ws) (skipped-same (j .given) (opOf w) (pointersOf w) (m .store))
+
+  pub history-skips : {m m′ : Machine} {ws : List ℕ} (p : Passes j m ws m′) (why : Reason)
+      → countOf why (m′ .store .reading .skips) ≡ countOf why (m .store .reading .skips) + times why (reasonsOf j p)
+  unfolding reasonsOf times
+  history-skips stays why = omega arith
+  history-skips {m} (passes {m′ = a} s p) why =
+      omega (
+        arith,
+        step-skips m a s why,
+        history-skips p why,
+        times-append why (skipped (j .given) (opOf (exitFrom j m)) (m .store)) (reasonsOf j p),
+      )
+
   pub run-history : (k : ℕ) (m : Machine) → History j k m (runOf j k m)
   unfolding runOf after
-  run-history zero m = record { exits = []; passes = stays; counted = omega arith; within = omega arith; why = inl (refl, refl) }
+  run-history zero m = record { exits = []; passes = stays; counted = omega arith; skips = history-skips stays; within = omega arith; why = inl (refl, refl) }
   run-history (suc k) m = go (stepOf j m) refl (run-history k)
     where
       longer : {s : Stop} (m′ : Machine) (c : ℕ)
@@ -103,10 +133,11 @@ module _ (j : Job) where
             exits = exitFrom j m ∷ r .exits;
             passes = passes e (r .passes);
             counted = omega (arith, r .counted, step-kept m m′ e .counted);
+            skips = history-skips (passes e (r .passes));
             within = omega (arith, r .within);
             why = longer (runOf j k m′ .at) (length (r .exits)) (r .why);
           }
-      go (halts s) e f = record { exits = []; passes = stays; counted = omega arith; within = omega arith; why = inr (e, omega arith) }
+      go (halts s) e f = record { exits = []; passes = stays; counted = omega arith; skips = history-skips stays; within = omega arith; why = inr (e, omega arith) }
 
   pub history-only : {m m′ m″ : Machine} {ws ws′ : List ℕ} → Passes j m ws m′ → Passes j m ws′ m″ → length ws ≡ length ws′
       → (ws ≡ ws′) × (m′ ≡ m″)

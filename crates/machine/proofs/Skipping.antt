@@ -1,6 +1,7 @@
 -- The counts of skipped number lines after an instruction.
 --     exec-counts      each is what it was, and one more where the instruction skipped a line for its reason
 --     exec-total       their sum grows by at most one
+--     times-append     reasons counted over two lists
 --     skipped-same     which line is skipped does not depend on the pointers
 -- Assumes nothing.
 use mathlib.Core.Path.{_≡_, refl, subst}
@@ -115,6 +116,11 @@ module _ (g : Given) (size : ℕ) (op : Op) (m : Store) {m′ : Store} (e : exec
 
   pub exec-total : total (m′ .reading .skips) ≤ total (m .reading .skips) + 1
   exec-total = subst (Counts (skipped g op m) m) e (executing g size op m) .few
+
+pub times-append : (why : Reason) (ws vs : List Reason) → times why (ws ++ vs) ≡ times why ws + times why vs
+unfolding times
+times-append why [] vs = omega arith
+times-append why (w ∷ ws) vs = omega (arith, times-append why ws vs)
 
 pub skipped-same : (g : Given) (op : Op) (u : PointerState) (m : Store) → skipped g op (withPointers u m) ≡ skipped g op m
 unfolding skipped
