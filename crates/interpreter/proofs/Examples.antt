@@ -6,8 +6,13 @@ use Prim.Native.Nat.{ℕ}
 use lib.IntN.{pos}
 use Rattle.base.specs.Numbers.{Numbers, numbers, first}
 use Rattle.flow.specs.Pointer.{attemptOf}
+use Rattle.text.specs.Utf8.{scalars, encodes}
+use Rattle.text.specs.Line.{lineLength}
+use Rattle.text.specs.Input.{intOf, pushOrSkip}
+use Rattle.text.specs.Reading.{chars, same, valid, takeOf}
 use Rattle.stack.specs.Instr.{pop}
-use Rattle.machine.specs.Machine.{Given, given, statusOf, read, exec, fitting}
+use Rattle.machine.specs.Skips.{oneMore, counted}
+use Rattle.machine.specs.Machine.{Given, given, statusOf, take, read, exec, fitting}
 use Rattle.machine.specs.Held.{Slices, slices}
 use Rattle.interpreter.specs.Table.{openFrom, any, every}
 use Rattle.interpreter.specs.Forever as Forever
@@ -82,6 +87,11 @@ pub in-order : (two 8388610 1 true .0 ≡ told (2 ∷ 1 ∷ 1 ∷ 0 ∷ 0 ∷ 0 
     × (two 8388610 5 true .0 ≡ told (3 ∷ 1 ∷ 1 ∷ 0 ∷ 0 ∷ 0 ∷ 0 ∷ 0 ∷ []))
 unfolding attemptOf statusOf read exec fitting openFrom any arrive after runOf first
 in-order = (refl, refl)
+
+-- the same exit not in abstract mode, at the end of the input: a skipped line, counted by its reason
+pub at-end : two 8388610 5 false .0 ≡ numbers 0 (1 ∷ 1 ∷ 1 ∷ 0 ∷ 0 ∷ 0 ∷ 0 ∷ 0 ∷ 1 ∷ 0 ∷ 0 ∷ 0 ∷ [])
+unfolding attemptOf scalars encodes lineLength intOf pushOrSkip chars same valid takeOf oneMore counted statusOf take read exec fitting openFrom any arrive after runOf first
+at-end = refl
 
 -- the exit 524,290 to the second with Push: the size of the block just left
 pub block-left : (two 524290 5 false .0 ≡ told (1 ∷ 1 ∷ 1 ∷ 0 ∷ 0 ∷ 1 ∷ 0 ∷ 0 ∷ []))

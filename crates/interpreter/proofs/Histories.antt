@@ -2,6 +2,7 @@
 --     run-history      a run comes to its end by a list of exits that is as long as the steps made
 --     history-only     so many exits from one place are one list, and lead to one place
 --     history-skips    of each reason as many number lines are counted as its steps skipped for it
+--     run-few          and all in all no more than steps were made
 --     history-ends     where they lead is the last of the regions entered
 --     never-max        a step never halts with MaxSteps
 --     at-limit         MaxSteps comes exactly at the limit
@@ -11,7 +12,7 @@ use mathlib.Core.Path.{_≡_, refl, sym, ap, subst, _∙_}
 use mathlib.Core.Bool.{Bool, true, false, cond}
 use mathlib.Core.Logic.{_⊎_, inl, inr}
 use mathlib.Core.List.{List, [], _∷_, map}
-use Prim.Native.Nat.{ℕ, zero, suc, _+_, _<_}
+use Prim.Native.Nat.{ℕ, zero, suc, _+_, _<_, _≤_}
 use native.Mathlib.Omega.{arith}
 use lib.Dec.{eqb}
 use lib.ListN.{length, getD}
@@ -19,16 +20,16 @@ use Rattle.base.proofs.Clash.{clash}
 use Rattle.machine.specs.declared.Stop.{Stop}
 use Rattle.machine.specs.declared.Stop.the-variants.{Completed, MaxSteps, NeedsInput}
 use Rattle.text.specs.declared.number.Reason.{Reason}
-use Rattle.machine.specs.Skips.{countOf, times}
+use Rattle.machine.specs.Skips.{countOf, total, times}
 use Rattle.machine.specs.Machine.{underLimit, Out, keeps, stops, fitting, withPointers}
 use Rattle.machine.specs.Skipped.{skipped}
-use Rattle.machine.specs.Place.{Machine}
+use Rattle.machine.specs.Place.{Machine, start}
 use Rattle.machine.proofs.Fitting.{fit-kept, fit-stops, not-limit, exec-limit}
-use Rattle.machine.proofs.Skipping.{exec-counts, skipped-same, times-append}
+use Rattle.machine.proofs.Skipping.{exec-counts, exec-total, skipped-same, times-append}
 use Rattle.table.specs.ExitNumber.{targetOf}
 use Rattle.table.specs.Layout.{sizeOf}
 use Rattle.interpreter.specs.Table.{pointersOf, opOf}
-use Rattle.interpreter.specs.Run.{Job, Went, goes, halts, arrive, exitFrom, effectOf, through, leave, stepOf, after, runOf}
+use Rattle.interpreter.specs.Run.{Job, Went, goes, halts, arrive, exitFrom, effectOf, through, leave, stepOf, after, runOf, ran}
 use Rattle.interpreter.specs.History.{Passes, stays, passes, reasonsOf, History, regionsOf}
 
 -- what a step that is taken came to
@@ -138,6 +139,22 @@ module _ (j : Job) where
             why = longer (runOf j k m′ .at) (length (r .exits)) (r .why);
           }
       go (halts s) e f = record { exits = []; passes = stays; counted = omega arith; skips = history-skips stays; within = omega arith; why = inr (e, omega arith) }
+
+  step-few : (m m′ : Machine) → stepOf j m ≡ goes m′ → total (m′ .store .reading .skips) ≤ total (m .store .reading .skips) + 1
+  step-few m m′ e =
+      let w = exitFrom j m in
+      exec-total (j .given) (sizeOf (j .rows) (m .region)) (opOf w) (withPointers (pointersOf w) (m .store))
+      (fit-kept (j .room) (effectOf j w m) (step-kept m m′ e .store))
+
+  history-few : {m m′ : Machine} {ws : List ℕ} → Passes j m ws m′
+      → total (m′ .store .reading .skips) ≤ total (m .store .reading .skips) + length ws
+  history-few stays = omega arith
+  history-few {m} (passes {m′ = a} s p) = omega (arith, step-few m a s, history-few p)
+
+  pub run-few : total (ran j .at .store .reading .skips) ≤ ran j .at .steps
+  run-few =
+      let h = run-history (j .given .terms .limit) start in
+      omega (arith, history-few (h .passes), h .counted)
 
   pub history-only : {m m′ m″ : Machine} {ws ws′ : List ℕ} → Passes j m ws m′ → Passes j m ws′ m″ → length ws ≡ length ws′
       → (ws ≡ ws′) × (m′ ≡ m″)
