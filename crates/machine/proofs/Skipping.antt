@@ -9,8 +9,6 @@ use mathlib.Core.Bool.{Bool, true, false, cond}
 use mathlib.Core.List.{List, [], _∷_, _++_}
 use Prim.Native.Nat.{ℕ, _+_, _≤_}
 use native.Mathlib.Omega.{arith}
-use lib.Dec.{eqb}
-use lib.ListN.{length, getD}
 use Rattle.flow.specs.declared.PointerState.{PointerState}
 use Rattle.text.specs.declared.number.Number.{Number}
 use Rattle.text.specs.declared.number.Reason.{Reason}
@@ -22,32 +20,20 @@ use Rattle.text.specs.Reading.{takeOf}
 use Rattle.machine.specs.declared.Op.{Op}
 use Rattle.machine.specs.declared.Op.the-variants.{Nothing, Push, Pop, Pair, Not, Ptr, Swi, Dup, Roll, CharIn, CharOut, IntIn, IntOut}
 use Rattle.machine.specs.declared.Skips.{Skips}
-use Rattle.machine.specs.Skips.{countsOf, place, countOf, total, oneMore, counted, times}
+use Rattle.machine.specs.Skips.{place, countOf, total, one, oneMore, counted, times}
 use Rattle.machine.specs.Machine.{Given, Store, Effect, does, bad-input, turn, write, take, takeNumber, read, exec, withPointers, waiting}
 use Rattle.machine.specs.Skipped.{reasonIn, skipped}
 
--- one more of a reason, as each count shows it
-more-counts : (w why : Reason) (s : Skips) → countOf why (oneMore w s) ≡ countOf why s + cond (eqb (place why) (place w)) 1 0
+-- one more of a reason, as each count shows it, and in all
+more-counts : (w why : Reason) (s : Skips) → countOf why (oneMore w s) ≡ countOf why s + one w why
 unfolding place oneMore
-more-counts Ended Ended s = refl
-more-counts Ended Blank s = omega arith
-more-counts Ended NotNumber s = omega arith
-more-counts Ended OutOfRange s = omega arith
-more-counts Blank Ended s = omega arith
-more-counts Blank Blank s = refl
-more-counts Blank NotNumber s = omega arith
-more-counts Blank OutOfRange s = omega arith
-more-counts NotNumber Ended s = omega arith
-more-counts NotNumber Blank s = omega arith
-more-counts NotNumber NotNumber s = refl
-more-counts NotNumber OutOfRange s = omega arith
-more-counts OutOfRange Ended s = omega arith
-more-counts OutOfRange Blank s = omega arith
-more-counts OutOfRange NotNumber s = omega arith
-more-counts OutOfRange OutOfRange s = refl
+more-counts w Ended s = refl
+more-counts w Blank s = refl
+more-counts w NotNumber s = refl
+more-counts w OutOfRange s = refl
 
 more-total : (w : Reason) (s : Skips) → total (oneMore w s) ≡ total s + 1
-unfolding oneMore
+unfolding place one oneMore
 more-total Ended s = omega arith
 more-total Blank s = omega arith
 more-total NotNumber s = omega arith

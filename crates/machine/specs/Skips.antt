@@ -30,12 +30,18 @@ total s = s .ended + s .blank + s .«not_number» + s .«out_of_range»
 abbrev pub noSkips : Skips
 noSkips = record { ended = 0; blank = 0; «not_number» = 0; «out_of_range» = 0 }
 
+-- 1 of a reason for itself, 0 for another
+unfoldable pub one : Reason → Reason → ℕ
+one why other = cond (eqb (place why) (place other)) 1 0
+
 -- one more of a reason
 unfoldable pub oneMore : Reason → Skips → Skips
-oneMore Ended s = record { ended = s .ended + 1; blank = s .blank; «not_number» = s .«not_number»; «out_of_range» = s .«out_of_range» }
-oneMore Blank s = record { ended = s .ended; blank = s .blank + 1; «not_number» = s .«not_number»; «out_of_range» = s .«out_of_range» }
-oneMore NotNumber s = record { ended = s .ended; blank = s .blank; «not_number» = s .«not_number» + 1; «out_of_range» = s .«out_of_range» }
-oneMore OutOfRange s = record { ended = s .ended; blank = s .blank; «not_number» = s .«not_number»; «out_of_range» = s .«out_of_range» + 1 }
+oneMore why s = record {
+  ended = s .ended + one why Ended;
+  blank = s .blank + one why Blank;
+  «not_number» = s .«not_number» + one why NotNumber;
+  «out_of_range» = s .«out_of_range» + one why OutOfRange;
+}
 
 -- the counts after a number line was taken
 unfoldable pub counted : Taken → Skips → Skips
@@ -46,4 +52,4 @@ counted BadInput s = s
 -- how many of the reasons are this one
 unfoldable pub times : Reason → List Reason → ℕ
 times why [] = 0
-times why (w ∷ ws) = cond (eqb (place why) (place w)) 1 0 + times why ws
+times why (w ∷ ws) = one w why + times why ws

@@ -1,9 +1,20 @@
 -- `machine::Skips::one_more` meets its contract: the sum of the counts bounds each. Assumes nothing.
-use mathlib.Core.Path.{refl}
+use mathlib.Core.Path.{_≡_}
+use Prim.Native.Nat.{_+_}
+use native.Mathlib.Omega.{arith}
+use Rattle.text.specs.declared.number.Reason.{Reason}
+use Rattle.text.specs.declared.number.Reason.the-variants.{Ended, Blank, NotNumber, OutOfRange}
+use Rattle.machine.specs.declared.Skips.{Skips}
 use borrow.Author.Needs.{needs}
-use Rattle.machine.specs.Skips.{oneMore}
+use Rattle.machine.specs.Skips.{place, one, oneMore}
 use Rattle.machine.proofs.Skips.one_more.Statement.{statement}
 use Rattle.machine.proofs.Skips.one_more.Tie as tie
+
+-- count by count
+each : (why : Reason) (s s′ : Skips) → s′ .ended ≡ s .ended + one why Ended → s′ .blank ≡ s .blank + one why Blank
+    → s′ .«not_number» ≡ s .«not_number» + one why NotNumber → s′ .«out_of_range» ≡ s .«out_of_range» + one why OutOfRange → s′ ≡ oneMore why s
+unfolding oneMore
+each why s s′ a b c d = λ i. record { ended = a i; blank = b i; «not_number» = c i; «out_of_range» = d i }
 
 enum-told : tie.Need-enum-told
 enum-told c = search needs
@@ -30,20 +41,20 @@ add-self-4 : tie.Need-add-self-4
 add-self-4 c = search needs
 
 returns : tie.Need-returns
-unfolding oneMore
-returns c = rw (c .before .enum-told .given .1) refl
+unfolding place one
+returns c = rw (c .before .enum-told .given .1) (each Ended (c .before .before .before .args .self) _ (omega arith) (omega arith) (omega arith) (omega arith))
 
 returns-2 : tie.Need-returns-2
-unfolding oneMore
-returns-2 c = rw (c .before .enum-told2 .given .1) refl
+unfolding place one
+returns-2 c = rw (c .before .enum-told2 .given .1) (each Blank (c .before .before .before .args .self) _ (omega arith) (omega arith) (omega arith) (omega arith))
 
 returns-3 : tie.Need-returns-3
-unfolding oneMore
-returns-3 c = rw (c .before .enum-told3 .given .1) refl
+unfolding place one
+returns-3 c = rw (c .before .enum-told3 .given .1) (each NotNumber (c .before .before .before .args .self) _ (omega arith) (omega arith) (omega arith) (omega arith))
 
 returns-4 : tie.Need-returns-4
-unfolding oneMore
-returns-4 c = rw (c .before .enum-told4 .given .1) refl
+unfolding place one
+returns-4 c = rw (c .before .enum-told4 .given .1) (each OutOfRange (c .before .before .before .args .self) _ (omega arith) (omega arith) (omega arith) (omega arith))
 
 pub one-more-spec : {M : Type 1} → statement M
 one-more-spec =
