@@ -391,18 +391,13 @@ static void write_p6(size_t height, uint64_t *answer, size_t answer_length)
     PRINT("file", file, COUNT(file));
 }
 
-int main(void)
+/* The answers are one cell longer than named, or one shorter. */
+static void tables(void)
 {
     uint64_t one[1], two[2], three[3];
-    uint64_t short_run[PIET_RUN_ANSWER - 1], long_run[PIET_RUN_ANSWER + 1];
-    uint64_t short_picture[PIET_RUN_PICTURE_ANSWER - 1], long_picture[PIET_RUN_PICTURE_ANSWER + 1];
     FILL(one, 90);
     FILL(two, 91);
     FILL(three, 92);
-    FILL(short_run, 93);
-    FILL(short_picture, 94);
-    FILL(long_run, 95);
-    FILL(long_picture, 96);
     classify(PIET_UNKNOWN_REFUSED, three, COUNT(three));
     classify(PIET_UNKNOWN_BLACK, three, COUNT(three));
     classify(PIET_UNKNOWN_BLACK, one, COUNT(one));
@@ -412,17 +407,42 @@ int main(void)
     build(one, COUNT(one));
     forever(two, COUNT(two));
     forever(one, 0);
+}
+
+static void runs(void)
+{
+    uint64_t short_run[PIET_RUN_ANSWER - 1], long_run[PIET_RUN_ANSWER + 1];
+    uint64_t short_picture[PIET_RUN_PICTURE_ANSWER - 1], long_picture[PIET_RUN_PICTURE_ANSWER + 1];
+    FILL(short_run, 93);
+    FILL(short_picture, 94);
+    FILL(long_run, 95);
+    FILL(long_picture, 96);
     run(numbers, long_run, COUNT(long_run));
     run(skipped, long_run, COUNT(long_run));
     run(numbers, short_run, COUNT(short_run));
     run_picture(numbers, long_picture, COUNT(long_picture));
     run_picture(skipped, long_picture, COUNT(long_picture));
     run_picture(numbers, short_picture, COUNT(short_picture));
+}
+
+static void files(void)
+{
+    uint64_t one[1], two[2], three[3];
+    FILL(one, 90);
+    FILL(two, 91);
+    FILL(three, 92);
     read_p6(COUNT(p6_file), three, COUNT(three));
     read_p6(COUNT(p6_file) - 1, three, COUNT(three)); /* its last byte is missing */
     read_p6(COUNT(p6_file), one, COUNT(one));
     write_p6(HEIGHT, two, COUNT(two));
     write_p6(HEIGHT + 1, two, COUNT(two)); /* the pixels don't fit */
     write_p6(HEIGHT, one, 0);
+}
+
+int main(void)
+{
+    tables();
+    runs();
+    files();
     return 0;
 }

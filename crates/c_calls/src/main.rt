@@ -231,15 +231,12 @@ fn write_p6(height: usize, answer: &mut [u64]) {
     print_bytes(b"  file", &file);
 }
 
-fn main() {
+// The answers are one cell longer than named, or one shorter.
+fn tables() {
     let mut none = [0u64; 0];
     let mut one = [90u64; 1];
     let mut two = [91u64; 2];
     let mut three = [92u64; 3];
-    let mut eleven = [93u64; 11];
-    let mut twelve = [94u64; 12];
-    let mut thirteen = [95u64; 13];
-    let mut fourteen = [96u64; 14];
     classify(1, &mut three);
     classify(3, &mut three);
     classify(3, &mut one);
@@ -249,16 +246,36 @@ fn main() {
     build(&mut one);
     forever(&mut two);
     forever(&mut none);
+}
+
+fn runs() {
+    let mut eleven = [93u64; 11];
+    let mut twelve = [94u64; 12];
+    let mut thirteen = [95u64; 13];
+    let mut fourteen = [96u64; 14];
     run(4, b"7\n300\n5\n", &mut thirteen);
     run(31, b"\n\n\nx\nx\n9223372036854775808\n", &mut thirteen);
     run(4, b"7\n300\n5\n", &mut eleven);
     run_picture(4, b"7\n300\n5\n", &mut fourteen);
     run_picture(31, b"\n\n\nx\nx\n9223372036854775808\n", &mut fourteen);
     run_picture(4, b"7\n300\n5\n", &mut twelve);
+}
+
+fn files() {
+    let mut none = [0u64; 0];
+    let mut one = [90u64; 1];
+    let mut two = [91u64; 2];
+    let mut three = [92u64; 3];
     read_p6(b"P6 2 1 255\nabcdef", &mut three);
     read_p6(b"P6 2 1 255\nabcde", &mut three);
     read_p6(b"P6 2 1 255\nabcdef", &mut one);
     write_p6(3, &mut two);
     write_p6(4, &mut two);
     write_p6(3, &mut none);
+}
+
+fn main() {
+    tables();
+    runs();
+    files();
 }
