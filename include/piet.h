@@ -129,6 +129,28 @@ enum piet_status {
     PIET_BAD_INPUT = 6    /* the line that the step would read is not UTF-8 */
 };
 
+/*
+ * The cells of a run's answer. The four SKIPPED count the steps at which IntIn skipped its line, by the reason. White
+ * space is taken off both ends of the line; what is left is a number where it is a sign or none and one or more digits
+ * 0 to 9. Only steps that are taken count, so that the four together are at most the steps. In abstract mode nothing is
+ * read, and nothing counts.
+ */
+enum piet_run_cell {
+    PIET_RUN_STATUS = 0,                /* enum piet_status */
+    PIET_RUN_STEPS = 1,                 /* the steps taken */
+    PIET_RUN_REGION = 2,                /* the region that the run stands in */
+    PIET_RUN_DP = 3,                    /* enum piet_dp */
+    PIET_RUN_CC = 4,                    /* enum piet_cc */
+    PIET_RUN_DEPTH = 5,                 /* the depth of the stack */
+    PIET_RUN_OUTPUTS = 6,               /* the count of outputs */
+    PIET_RUN_USED = 7,                  /* the bytes of input used */
+    PIET_RUN_SKIPPED_ENDED = 8,         /* no byte of input was left */
+    PIET_RUN_SKIPPED_BLANK = 9,         /* a line was there, and it was white space alone */
+    PIET_RUN_SKIPPED_NOT_NUMBER = 10,   /* what was left is not a number */
+    PIET_RUN_SKIPPED_OUT_OF_RANGE = 11, /* what was left is a number below -2^63 or above 2^63 - 1 */
+    PIET_RUN_PICTURE_REGIONS = 12       /* of piet_run_picture alone: the count of regions */
+};
+
 /* The kind of an output. */
 enum piet_kind {
     PIET_CHAR = 1, /* a Unicode scalar value */
@@ -141,8 +163,8 @@ enum piet_size {
     PIET_BUILD_ANSWER = 2,
     PIET_LABEL_ANSWER = 1,
     PIET_FOREVER_ANSWER = 1,
-    PIET_RUN_ANSWER = 8,
-    PIET_RUN_PICTURE_ANSWER = 9,
+    PIET_RUN_ANSWER = 12,
+    PIET_RUN_PICTURE_ANSWER = 13,
     PIET_READ_P6_ANSWER = 2,
     PIET_WRITE_P6_ANSWER = 1,
     PIET_ROW = 5,         /* cells of a region's row: colour, size, first pixel row, first pixel column, node mark */
@@ -235,8 +257,8 @@ uint32_t piet_determine_runs_forever(size_t n,
  *   stack            the stack, of any length, 0 included; on return cell 0 is the bottom
  *   kinds, values    the outputs in order, enum piet_kind and the value; the shorter of the two is the room, which
  *                    may be 0
- *   answer           8 cells: status (enum piet_status), steps, region, dp, cc, stack depth, count of outputs, bytes
- *                    of input used
+ *   answer           12 cells, in the order of enum piet_run_cell: where and why the run stopped, and how many lines
+ *                    IntIn skipped for which reason
  *
  * All cells of stack, kinds and values past the depth or the count of outputs, each slice to its end, become 0.
  *
@@ -263,8 +285,8 @@ uint32_t piet_run(size_t n,
  *   colours                      room for height x width bytes, written as by piet_classify
  *   map, rows, exits, work       room for G, 5 x G, 8 x G and G, written as by piet_build
  *   stack, kinds, values         of any length, written as by piet_run
- *   answer                       9 cells: the eight of piet_run, then the count of regions; with PIET_REFUSED_PIXEL,
- *                                row and column of the first such pixel, then seven zeros
+ *   answer                       13 cells: the twelve of piet_run, then the count of regions; with PIET_REFUSED_PIXEL,
+ *                                row and column of the first such pixel, then eleven zeros
  *
  * Returns the first refusal that holds in the order SIZE, SETTING, BYTES, ROOM (of colours), PIXEL, and then CODEL,
  * GRID, WHITE, ROOM (of map, rows, exits or work); or PIET_DONE.

@@ -1,7 +1,7 @@
 /*
- * Every function of the library, with each argument by its name in piet.h: once done, once refused for too short an answer,
- * and some refused for another reason. The calls are those of the program crates/c_calls, which makes them by position, and
- * so is what is printed:
+ * Every function of the library, with each argument by its name in piet.h: once done, a run also with lines that are
+ * skipped, once refused for too short an answer, and some refused for another reason. The calls are those of the program
+ * crates/c_calls, which makes them by position, and so is what is printed:
  *
  *     rt staticlib piet_c
  *     gcc examples/c/calls.c -Iinclude -Ltarget/staticlib -lpiet_c -o calls
@@ -31,7 +31,7 @@
         printf("\n");                                   \
     } while (0)
 
-enum { HEIGHT = 3, WIDTH = 5, CODEL = 2, REGIONS = 4, LIMIT = 4 };
+enum { HEIGHT = 3, WIDTH = 5, CODEL = 2, REGIONS = 4 };
 
 /* The pixel (2,1) has none of the twenty colours. */
 static const uint8_t pixels[3 * HEIGHT * WIDTH] = {
@@ -56,7 +56,19 @@ static const uint32_t exit_cells[] = {
     0,       0,       0,      0,      0,       0,       0, 0,
 };
 
-static const uint8_t lines[8] = {'7', '\n', '3', '0', '0', '\n', '5', '\n'};
+/* What a run reads, and its most steps. The zero at a text's end is not read. */
+struct terms {
+    const uint8_t *input;
+    size_t input_length;
+    uint64_t limit;
+};
+
+static const uint8_t number_lines[] = "7\n300\n5\n";
+static const struct terms numbers = {number_lines, COUNT(number_lines) - 1, 4};
+
+/* Three are blank, two are no numbers, one is out of range, and after them five steps find the input ended. */
+static const uint8_t other_lines[] = "\n\n\nx\nx\n9223372036854775808\n";
+static const struct terms skipped = {other_lines, COUNT(other_lines) - 1, 31};
 
 /* A P6 file of 1 x 2 pixels; it has the width first. */
 static const uint8_t p6_file[17] = {
@@ -238,7 +250,7 @@ struct run_call {
     size_t answer_length;
 };
 
-static void run(uint64_t *answer, size_t answer_length)
+static void run(struct terms terms, uint64_t *answer, size_t answer_length)
 {
     struct room room;
     fill_room(&room);
@@ -246,8 +258,8 @@ static void run(uint64_t *answer, size_t answer_length)
         .n = REGIONS,
         .rows = row_cells, .rows_length = COUNT(row_cells),
         .exits = exit_cells, .exits_length = COUNT(exit_cells),
-        .limit = LIMIT, .abstract_mode = false,
-        .input = lines, .input_length = COUNT(lines),
+        .limit = terms.limit, .abstract_mode = false,
+        .input = terms.input, .input_length = terms.input_length,
         .stack = room.stack, .stack_length = COUNT(room.stack),
         .kinds = room.kinds, .kinds_length = COUNT(room.kinds),
         .values = room.values, .values_length = COUNT(room.values),
@@ -301,7 +313,7 @@ static uint32_t pass_picture(struct run_picture_call call)
                             call.answer, call.answer_length);
 }
 
-static void run_picture(uint64_t *answer, size_t answer_length)
+static void run_picture(struct terms terms, uint64_t *answer, size_t answer_length)
 {
     uint8_t colours[16];
     struct table table;
@@ -312,8 +324,8 @@ static void run_picture(uint64_t *answer, size_t answer_length)
     struct run_picture_call call = {
         .pixels = pixels, .pixels_length = COUNT(pixels),
         .height = HEIGHT, .width = WIDTH, .setting = PIET_UNKNOWN_BLACK, .codel = CODEL,
-        .limit = LIMIT, .abstract_mode = false,
-        .input = lines, .input_length = COUNT(lines),
+        .limit = terms.limit, .abstract_mode = false,
+        .input = terms.input, .input_length = terms.input_length,
         .colours = colours, .colours_length = COUNT(colours),
         .map = table.map, .map_length = COUNT(table.map),
         .rows = table.rows, .rows_length = COUNT(table.rows),
@@ -379,16 +391,13 @@ static void write_p6(size_t height, uint64_t *answer, size_t answer_length)
     PRINT("file", file, COUNT(file));
 }
 
-int main(void)
+/* The answers are one cell longer than named, or one shorter. */
+static void tables(void)
 {
-    uint64_t one[1], two[2], three[3], seven[7], eight[8], nine[9], ten[10];
+    uint64_t one[1], two[2], three[3];
     FILL(one, 90);
     FILL(two, 91);
     FILL(three, 92);
-    FILL(seven, 93);
-    FILL(eight, 94);
-    FILL(nine, 95);
-    FILL(ten, 96);
     classify(PIET_UNKNOWN_REFUSED, three, COUNT(three));
     classify(PIET_UNKNOWN_BLACK, three, COUNT(three));
     classify(PIET_UNKNOWN_BLACK, one, COUNT(one));
@@ -398,15 +407,42 @@ int main(void)
     build(one, COUNT(one));
     forever(two, COUNT(two));
     forever(one, 0);
-    run(nine, COUNT(nine));
-    run(seven, COUNT(seven));
-    run_picture(ten, COUNT(ten));
-    run_picture(eight, COUNT(eight));
+}
+
+static void runs(void)
+{
+    uint64_t short_run[PIET_RUN_ANSWER - 1], long_run[PIET_RUN_ANSWER + 1];
+    uint64_t short_picture[PIET_RUN_PICTURE_ANSWER - 1], long_picture[PIET_RUN_PICTURE_ANSWER + 1];
+    FILL(short_run, 93);
+    FILL(short_picture, 94);
+    FILL(long_run, 95);
+    FILL(long_picture, 96);
+    run(numbers, long_run, COUNT(long_run));
+    run(skipped, long_run, COUNT(long_run));
+    run(numbers, short_run, COUNT(short_run));
+    run_picture(numbers, long_picture, COUNT(long_picture));
+    run_picture(skipped, long_picture, COUNT(long_picture));
+    run_picture(numbers, short_picture, COUNT(short_picture));
+}
+
+static void files(void)
+{
+    uint64_t one[1], two[2], three[3];
+    FILL(one, 90);
+    FILL(two, 91);
+    FILL(three, 92);
     read_p6(COUNT(p6_file), three, COUNT(three));
     read_p6(COUNT(p6_file) - 1, three, COUNT(three)); /* its last byte is missing */
     read_p6(COUNT(p6_file), one, COUNT(one));
     write_p6(HEIGHT, two, COUNT(two));
     write_p6(HEIGHT + 1, two, COUNT(two)); /* the pixels don't fit */
     write_p6(HEIGHT, one, 0);
+}
+
+int main(void)
+{
+    tables();
+    runs();
+    files();
     return 0;
 }

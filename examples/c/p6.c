@@ -1,6 +1,6 @@
 /*
- * Runs a picture from a Netpbm P6 file, as a marker of pictures would, and prints what the run program prints, or
- * `refused N`. With a second name the picture is written there again as P6, in its shortest form.
+ * Runs a picture from a Netpbm P6 file, as a marker of pictures would, and prints what the run told, or `refused N`. With
+ * a second name the picture is written there again as P6, in its shortest form.
  *
  *     rt staticlib piet_c
  *     gcc examples/c/p6.c -Iinclude -Ltarget/staticlib -lpiet_c -o p6

@@ -1,4 +1,5 @@
 //! The calls over lent slices.
+use crate::ended::{RUN_ANSWER, RUN_PICTURE_ANSWER};
 use crate::raw;
 use crate::{
     Colour, Ended, Picture, PictureRoom, Pictured, Refusal, RunRoom, Shape, Table, TableRoom, Terms, Unknown,
@@ -62,7 +63,7 @@ pub fn determine_runs_forever(table: Table) -> Result<bool, Refusal> {
 ///
 /// Table.
 pub fn run(table: Table, terms: Terms, room: RunRoom) -> Result<Ended, Refusal> {
-    let mut answer = [0; 8];
+    let mut answer = [0; RUN_ANSWER];
     let number = raw::run(table, terms, room, &mut answer);
     Refusal::unless_done(number, [0; 2])?;
     Ok(Ended::of(answer))
@@ -74,13 +75,12 @@ pub fn run(table: Table, terms: Terms, room: RunRoom) -> Result<Ended, Refusal> 
 ///
 /// Size, Bytes, Room (of the colours), Pixel, Codel, Grid, White, Room (of the table): the first that holds.
 pub fn run_picture(picture: Picture, terms: Terms, room: PictureRoom) -> Result<Pictured, Refusal> {
-    let mut answer = [0; 9];
+    let mut answer = [0; RUN_PICTURE_ANSWER];
     let Picture { pixels, shape, unknown } = picture;
     let number = raw::run_picture((pixels, shape, unknown.number()), terms, room, &mut answer);
-    let [status, steps, region, dp, cc, depth, outputs, used, regions] = answer;
-    Refusal::unless_done(number, [status, steps])?;
-    let ended = Ended::of([status, steps, region, dp, cc, depth, outputs, used]);
-    Ok(Pictured { ended, regions: regions as usize })
+    let [row, column, ..] = answer;
+    Refusal::unless_done(number, [row, column])?;
+    Ok(Pictured::of(answer))
 }
 
 /// The pixels of a Netpbm P6 file, three bytes each, into the first cells of `pixels`; gives height and width. As many

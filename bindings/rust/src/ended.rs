@@ -1,6 +1,6 @@
 //! Where a run stopped, and why.
 use crate::numbers::{from_outside, numbered, proved, NoSuch};
-use crate::{Cc, Dp, Pointers};
+use crate::{Cc, Dp, Pointers, Skipped};
 
 numbered! {
     /// Why a run stopped. At the last three the step is not taken, and everything stands as before it.
@@ -39,11 +39,17 @@ pub struct Ended {
     pub outputs: usize,
     /// The bytes of input that were read.
     pub used: usize,
+    /// How many lines IntIn skipped, by the reason.
+    pub skipped: Skipped,
 }
+
+/// The cells of a run's answer.
+pub(crate) const RUN_ANSWER: usize = 12;
 
 impl Ended {
     /// The end that the cells of an answer say.
-    pub(crate) fn of([status, steps, region, dp, cc, depth, outputs, used]: [u64; 8]) -> Self {
+    pub(crate) fn of(answer: [u64; RUN_ANSWER]) -> Self {
+        let [status, steps, region, dp, cc, depth, outputs, used, skipped @ ..] = answer;
         Ended {
             status: proved(Status::of(status)),
             steps,
@@ -52,6 +58,7 @@ impl Ended {
             depth: depth as usize,
             outputs: outputs as usize,
             used: used as usize,
+            skipped: Skipped::of(skipped),
         }
     }
 }
@@ -63,4 +70,14 @@ pub struct Pictured {
     pub ended: Ended,
     /// The count of the picture's regions.
     pub regions: usize,
+}
+
+/// The cells of the answer to a picture: those of a run's answer, then the count of regions.
+pub(crate) const RUN_PICTURE_ANSWER: usize = RUN_ANSWER + 1;
+
+impl Pictured {
+    /// The end that the cells of an answer say.
+    pub(crate) fn of([run @ .., regions]: [u64; RUN_PICTURE_ANSWER]) -> Self {
+        Pictured { ended: Ended::of(run), regions: regions as usize }
+    }
 }

@@ -31,6 +31,7 @@ mod pointers;
 #[allow(unsafe_code)]
 mod raw;
 mod refusal;
+mod skipped;
 mod table;
 
 pub use calls::{build, classify, determine_runs_forever, label, read_p6, run, run_picture, write_p6};
@@ -46,4 +47,5 @@ pub use picture::{Picture, Shape, MOST_CODELS};
 pub use pixels::{run_pixels, Cells, Told};
 pub use pointers::{Cc, Dp, Pointers};
 pub use refusal::Refusal;
+pub use skipped::Skipped;
 pub use table::{Exit, Region, Table, EXITS, LABEL, ROW};

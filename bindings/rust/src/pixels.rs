@@ -2,8 +2,8 @@
 use crate::error::{allocated, reserved};
 use crate::numbers::proved;
 use crate::{
-    run_picture, Ended, Error, Output, Picture, PictureRoom, Region, RunRoom, Shape, Table, TableRoom, Terms,
-    EXITS, ROW,
+    run_picture, Ended, Error, Output, Picture, PictureRoom, Region, RunRoom, Shape, Skipped, Table,
+    TableRoom, Terms, EXITS, ROW,
 };
 use std::fmt;
 
@@ -16,7 +16,7 @@ pub struct Cells {
     pub outputs: usize,
 }
 
-/// What a run gave. It is displayed as the run program prints it.
+/// What a run gave. It is displayed as the run program prints it; where IntIn skipped lines, a line more says why.
 #[derive(Clone, Debug, PartialEq, Eq, Hash)]
 pub struct Told {
     /// Where the run stopped.
@@ -90,7 +90,7 @@ fn outputs_of(kinds: &[u8], values: &[i64], count: usize) -> Result<Vec<Output>,
 
 impl fmt::Display for Told {
     fn fmt(&self, f: &mut fmt::Formatter<'_>) -> fmt::Result {
-        let Ended { status, steps, pointers, .. } = self.ended;
+        let Ended { status, steps, pointers, skipped, .. } = self.ended;
         writeln!(f, "status {}\nsteps {steps}", status.number())?;
         let label = self.region.label().map_err(|_| fmt::Error)?;
         writeln!(f, "at {label} {} {}", pointers.dp.number(), pointers.cc.number())?;
@@ -98,6 +98,10 @@ impl fmt::Display for Told {
         self.stack.iter().rev().try_for_each(|value| write!(f, " {value}"))?;
         write!(f, "\nout {}", self.outputs.len())?;
         self.outputs.iter().try_for_each(|output| write!(f, " {output}"))?;
-        writeln!(f)
+        writeln!(f)?;
+        if skipped != Skipped::NONE {
+            writeln!(f, "skipped {skipped}")?;
+        }
+        Ok(())
     }
 }

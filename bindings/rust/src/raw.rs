@@ -186,7 +186,8 @@ pub fn determine_runs_forever(table: Table, answer: &mut [u64; 1]) -> u32 {
     unsafe { piet_determine_runs_forever(regions, r, rows.len(), e, exits.len(), a, answer.len()) }
 }
 
-pub fn run(table: Table, terms: Terms, room: RunRoom, answer: &mut [u64; 8]) -> u32 {
+/// The answer may have any length, so that too short a one can be tried.
+pub fn run(table: Table, terms: Terms, room: RunRoom, answer: &mut [u64]) -> u32 {
     // SAFETY: each pointer comes with the length of its slice
     unsafe {
         piet_run(
@@ -214,7 +215,8 @@ pub fn run(table: Table, terms: Terms, room: RunRoom, answer: &mut [u64; 8]) -> 
 /// Pixels, their shape, and the setting for unknown ones by its number.
 pub type Painted<'a> = (&'a [u8], Shape, u8);
 
-pub fn run_picture(picture: Painted, terms: Terms, room: PictureRoom, answer: &mut [u64; 9]) -> u32 {
+/// The answer may have any length, as for [`run`].
+pub fn run_picture(picture: Painted, terms: Terms, room: PictureRoom, answer: &mut [u64]) -> u32 {
     let (pixels, shape, setting) = picture;
     let PictureRoom { colours, table, run } = room;
     // SAFETY: each pointer comes with the length of its slice

@@ -11,7 +11,9 @@
 //     label          a row and a column of unlike digits
 //     build          every slice is longer than its room; the map shows the width
 //     forever        the rows are too short to be exits
-//     run            7 is read and written, a slide leads back, 300 is read: it lies on the stack, and 7 in the values
+//     run            7 is read and written, a slide leads back, 300 is read: it lies on the stack, and 7 in the values; with
+//                    other lines, a count of its own for each reason to skip one: 3 lines are blank, 2 no numbers, 1 is out
+//                    of range, and 5 times the input has ended
 //     run_picture    as classify, build and run together, with the same lent slices
 //     read_p6        a file of 1 x 2 pixels, and one whose last byte is missing; the file has the width first
 //     write_p6       the file's text tells height from width; with another height the bytes don't fit
@@ -158,7 +160,7 @@ fn forever(answer: &mut [u64]) {
     print_returned(b"piet_determine_runs_forever", number, answer);
 }
 
-fn run(answer: &mut [u64]) {
+fn run(limit: u64, input: &[u8], answer: &mut [u64]) {
     let exits = exits();
     let mut stack = [86i64; 5];
     let mut kinds = [87u8; 3];
@@ -167,9 +169,9 @@ fn run(answer: &mut [u64]) {
         4,
         &ROWS,
         &exits,
-        4,
+        limit,
         false,
-        b"7\n300\n5\n",
+        input,
         &mut stack,
         &mut kinds,
         &mut values,
@@ -179,7 +181,7 @@ fn run(answer: &mut [u64]) {
     print_room(&stack, &kinds, &values);
 }
 
-fn run_picture(answer: &mut [u64]) {
+fn run_picture(limit: u64, input: &[u8], answer: &mut [u64]) {
     let pixels = pixels();
     let mut colours = [80u8; 16];
     let mut map = [82u32; 7];
@@ -195,9 +197,9 @@ fn run_picture(answer: &mut [u64]) {
         5,
         3,
         2,
-        4,
+        limit,
         false,
-        b"7\n300\n5\n",
+        input,
         &mut colours,
         &mut map,
         &mut rows,
@@ -229,15 +231,12 @@ fn write_p6(height: usize, answer: &mut [u64]) {
     print_bytes(b"  file", &file);
 }
 
-fn main() {
+// The answers are one cell longer than named, or one shorter.
+fn tables() {
     let mut none = [0u64; 0];
     let mut one = [90u64; 1];
     let mut two = [91u64; 2];
     let mut three = [92u64; 3];
-    let mut seven = [93u64; 7];
-    let mut eight = [94u64; 8];
-    let mut nine = [95u64; 9];
-    let mut ten = [96u64; 10];
     classify(1, &mut three);
     classify(3, &mut three);
     classify(3, &mut one);
@@ -247,14 +246,36 @@ fn main() {
     build(&mut one);
     forever(&mut two);
     forever(&mut none);
-    run(&mut nine);
-    run(&mut seven);
-    run_picture(&mut ten);
-    run_picture(&mut eight);
+}
+
+fn runs() {
+    let mut eleven = [93u64; 11];
+    let mut twelve = [94u64; 12];
+    let mut thirteen = [95u64; 13];
+    let mut fourteen = [96u64; 14];
+    run(4, b"7\n300\n5\n", &mut thirteen);
+    run(31, b"\n\n\nx\nx\n9223372036854775808\n", &mut thirteen);
+    run(4, b"7\n300\n5\n", &mut eleven);
+    run_picture(4, b"7\n300\n5\n", &mut fourteen);
+    run_picture(31, b"\n\n\nx\nx\n9223372036854775808\n", &mut fourteen);
+    run_picture(4, b"7\n300\n5\n", &mut twelve);
+}
+
+fn files() {
+    let mut none = [0u64; 0];
+    let mut one = [90u64; 1];
+    let mut two = [91u64; 2];
+    let mut three = [92u64; 3];
     read_p6(b"P6 2 1 255\nabcdef", &mut three);
     read_p6(b"P6 2 1 255\nabcde", &mut three);
     read_p6(b"P6 2 1 255\nabcdef", &mut one);
     write_p6(3, &mut two);
     write_p6(4, &mut two);
     write_p6(3, &mut none);
+}
+
+fn main() {
+    tables();
+    runs();
+    files();
 }

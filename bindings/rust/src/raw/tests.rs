@@ -1,10 +1,38 @@
 //! What the safe calls do not show: numbers that their types rule out are refused by the archive too, and the answers of
 //! refused calls.
-use super::{classify, label, read_p6, run_picture, write_p6};
-use crate::{PictureRoom, RunRoom, Shape, TableRoom, Terms, LABEL};
+use super::{classify, label, read_p6, run, run_picture, write_p6};
+use crate::{PictureRoom, RunRoom, Shape, Table, TableRoom, Terms, LABEL};
 
 const RED: [u8; 3] = [0xFF, 0, 0];
 const ONE_PIXEL: Shape = Shape { height: 1, width: 1, codel: 1 };
+/// One region, which IntIn leads back to.
+const LOOP: Table =
+    Table { regions: 1, rows: &[6, 1, 0, 0, 1], exits: &[1 + 16 * 524_288, 0, 0, 0, 0, 0, 0, 0] };
+const TERMS: Terms = Terms { limit: 3, abstract_mode: false, input: b"x\n\n5" };
+
+/// What the run of a picture of one codel is lent.
+#[derive(Clone, Debug, PartialEq)]
+struct Lent {
+    colours: Vec<u8>,
+    table: [Vec<u32>; 4],
+    stack: [i64; 1],
+    kinds: [u8; 1],
+    values: [i64; 1],
+}
+
+impl Lent {
+    /// Every cell is 7, to be found again where it stays.
+    fn full() -> Self {
+        let table = [1, 5, 8, 1].map(|cells| vec![7; cells]);
+        Lent { colours: vec![7], table, stack: [7], kinds: [7], values: [7] }
+    }
+
+    fn room(&mut self) -> PictureRoom<'_> {
+        let Lent { colours, table: [map, rows, exits, work], stack, kinds, values } = self;
+        let (table, run) = (TableRoom { map, rows, exits, work }, RunRoom { stack, kinds, values });
+        PictureRoom { colours, table, run }
+    }
+}
 
 #[test]
 fn settings_above_3() {
@@ -19,16 +47,10 @@ fn settings_above_3() {
 
 #[test]
 fn settings_above_3_for_a_picture() {
-    let (mut colours, mut kinds) = ([7; 1], [7; 1]);
-    let (mut map, mut rows, mut exits, mut work) = ([7; 1], [7; 5], [7; 8], [7; 1]);
-    let (mut stack, mut values) = ([7; 1], [7; 1]);
-    let mut asked = |shape, setting| {
-        let table = TableRoom { map: &mut map, rows: &mut rows, exits: &mut exits, work: &mut work };
-        let run = RunRoom { stack: &mut stack, kinds: &mut kinds, values: &mut values };
-        let room = PictureRoom { colours: &mut colours, table, run };
-        let (terms, mut answer) = (Terms { limit: 1, abstract_mode: false, input: b"" }, [7; 9]);
-        let number = run_picture((&RED, shape, setting), terms, room, &mut answer);
-        assert_eq!(answer, [0; 9]);
+    let asked = |shape, setting| {
+        let (mut lent, mut answer) = (Lent::full(), [7; 13]);
+        let number = run_picture((&RED, shape, setting), TERMS, lent.room(), &mut answer);
+        assert_eq!((lent, answer), (Lent::full(), [0; 13]));
         number
     };
     for setting in 4..=u8::MAX {
@@ -36,8 +58,50 @@ fn settings_above_3_for_a_picture() {
         assert_eq!(asked(Shape { height: 0, ..ONE_PIXEL }, setting), 1);
         assert_eq!(asked(Shape { height: 2, codel: 0, ..ONE_PIXEL }, setting), 3);
     }
-    assert_eq!((colours, kinds, map, rows, exits), ([7], [7], [7], [7; 5], [7; 8]));
-    assert_eq!((work, stack, values), ([7], [7], [7]));
+}
+
+/// A run has twelve cells for its answer: with fewer it is refused and nothing is written, and what is longer stays.
+#[test]
+fn cells_of_a_run() {
+    for cells in 0..=13 {
+        let (mut lent, mut answer) = (Lent::full(), vec![7; cells]);
+        let number = run(LOOP, TERMS, lent.room().run, &mut answer);
+        if cells < 12 {
+            assert_eq!((number, lent, answer), (4, Lent::full(), vec![7; cells]));
+        } else {
+            assert_eq!((number, &answer[..12]), (0, &[2, 3, 0, 0, 0, 1, 0, 4, 0, 1, 1, 0][..]));
+            assert_eq!(answer[12..], vec![7; cells - 12]);
+        }
+    }
+}
+
+/// A picture has the twelve of its run, and then the count of regions.
+#[test]
+fn cells_of_a_picture() {
+    for cells in 0..=14 {
+        let (mut lent, mut answer) = (Lent::full(), vec![7; cells]);
+        let number = run_picture((&RED, ONE_PIXEL, 1), TERMS, lent.room(), &mut answer);
+        if cells < 13 {
+            assert_eq!((number, lent, answer), (4, Lent::full(), vec![7; cells]));
+        } else {
+            assert_eq!((number, &answer[..13]), (0, &[1, 0, 0, 0, 0, 0, 0, 0, 0, 0, 0, 0, 1][..]));
+            assert_eq!(answer[13..], vec![7; cells - 13]);
+        }
+    }
+}
+
+/// A refused run leaves zeros in the answer, but for the place of an unknown pixel, whatever stood there.
+#[test]
+fn refused_runs() {
+    let (mut lent, mut answer) = (Lent::full(), [7; 13]);
+    assert_eq!(run(Table { regions: 2, ..LOOP }, TERMS, lent.room().run, &mut answer[..12]), 10);
+    assert_eq!(answer, [0, 0, 0, 0, 0, 0, 0, 0, 0, 0, 0, 0, 7]);
+
+    let (mut answer, one_row) = ([7; 13], Shape { width: 2, ..ONE_PIXEL });
+    lent.colours.push(7);
+    let before = lent.clone();
+    assert_eq!(run_picture((b"\xFF\0\0abc", one_row, 1), TERMS, lent.room(), &mut answer), 5);
+    assert_eq!((lent, answer), (before, [0, 1, 0, 0, 0, 0, 0, 0, 0, 0, 0, 0, 0]));
 }
 
 /// A refused call leaves zeros in the answer, whatever stood there.

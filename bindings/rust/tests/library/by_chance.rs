@@ -2,7 +2,7 @@
 use crate::support::{pixel, Slices, UNKNOWN};
 use piet::{
     build, classify, run, run_picture, run_pixels, Cells, Colour, Error, Output, Picture, Pictured, Refusal,
-    Shape, Terms, Unknown,
+    Shape, Skipped, Terms, Unknown,
 };
 use std::collections::BTreeSet;
 
@@ -52,7 +52,14 @@ impl Question {
             width: if chance.once_in(64) { 1_025 } else { 1 + chance.below(9) },
             codel: if chance.once_in(32) { 0 } else { 1 + chance.below(3) },
         };
-        let inputs = [&b""[..], b"5\n-7\n", b"+1\n\nx\n\xC3\xA9\n", b"3\n\xFF\n", b" 12\n12"];
+        let inputs = [
+            &b""[..],
+            b"5\n-7\n",
+            b"+1\n\nx\n\xC3\xA9\n",
+            b"3\n\xFF\n",
+            b" 12\n12",
+            b"9223372036854775808\n-\n \n4",
+        ];
         Question {
             pixels: painted(shape, chance),
             shape,
@@ -165,4 +172,20 @@ fn told_is((Pictured { ended, regions }, told): (Pictured, piet::Told), slices: 
     );
     let region = slices.table(regions).region(ended.region).unwrap();
     assert_eq!(told.region, region);
+}
+
+/// No more lines are skipped than steps are taken, and none in abstract mode; every reason is met.
+#[test]
+fn skipped_lines() {
+    let (mut chance, mut met) = (Chance(9), [0; 4]);
+    for _ in 0..PICTURES {
+        let question = Question::by(&mut chance);
+        let Ok(told) = run_pixels(question.picture(), question.terms(), question.cells) else { continue };
+        let Skipped { ended, blank, not_number, out_of_range } = told.ended.skipped;
+        let counts = [ended, blank, not_number, out_of_range];
+        let most = if question.abstract_mode { 0 } else { told.ended.steps };
+        assert!(counts.iter().sum::<u64>() <= most);
+        met.iter_mut().zip(counts).for_each(|(sum, count)| *sum += count);
+    }
+    assert!(met.iter().all(|&sum| sum > 100), "met {met:?}");
 }

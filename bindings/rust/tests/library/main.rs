@@ -8,6 +8,7 @@ mod numbers;
 mod p6;
 mod pictures;
 mod shapes;
+mod skipped;
 mod support;
 mod tables;
 mod worked;

@@ -2,7 +2,7 @@
 use crate::support::{built, pixels, row_of, Slices, CELLS, PATTERN, TERMS};
 use piet::{
     classify, determine_runs_forever, run, run_picture, run_pixels, Cc, Cells, Colour, Dp, Ended, Picture,
-    Pictured, Pointers, Status, Unknown,
+    Pictured, Pointers, Skipped, Status, Unknown,
 };
 
 const COLOURS: [Colour; 2] = [Colour::LightRed, Colour::Red];
@@ -14,6 +14,7 @@ const ENDED: Ended = Ended {
     depth: 1,
     outputs: 0,
     used: 0,
+    skipped: Skipped::NONE,
 };
 const ROWS: [u32; 10] = [12, 1, 0, 0, 1, 6, 1, 0, 1, 1];
 const EXITS: [u32; 16] = [524_290, 589_826, 0, 0, 0, 0, 0, 0, 0, 0, 0, 0, 1_310_721, 1_376_257, 0, 0];
