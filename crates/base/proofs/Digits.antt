@@ -1,10 +1,10 @@
 -- Laws of ASCII digits, by the byte, and of numerals. Assumes nothing.
 use mathlib.Core.Path.{_≡_, sym}
-use mathlib.Core.Bool.{true, false, and-false, true≢false}
+use mathlib.Core.Bool.{true, true≢false}
 use mathlib.Core.List.{List, [], _∷_}
 use Prim.Native.Nat.{ℕ, _<_, _≤_}
 use native.Mathlib.Omega.{arith}
-use borrow.Author.Tests.{le-leb, lt-leb, leb-true}
+use borrow.Author.Tests.{le-leb, leb-true}
 use lib.Dec.{leb}
 use lib.ListN.{length}
 use Rattle.base.specs.Text.{digit, allDigits, numeral}
@@ -13,14 +13,6 @@ use Rattle.base.proofs.Tests.{and-both}
 pub digit-in : (b : ℕ) → 0x30 ≤ b → b ≤ 0x39 → digit b ≡ true
 unfolding digit
 digit-in b h k = rw (le-leb 0x30 b h, le-leb b 0x39 k)
-
-pub digit-low : (b : ℕ) → b < 0x30 → digit b ≡ false
-unfolding digit
-digit-low b h = rw (lt-leb 0x30 b h)
-
-pub digit-high : (b : ℕ) → 0x39 < b → digit b ≡ false
-unfolding digit
-digit-high b h = rw (lt-leb b 0x39 h, and-false)
 
 pub digit-range : (b : ℕ) → digit b ≡ true → (0x30 ≤ b) × (b ≤ 0x39)
 unfolding digit

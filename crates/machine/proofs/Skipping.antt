@@ -10,7 +10,6 @@ use mathlib.Core.List.{List, [], _∷_, _++_}
 use Prim.Native.Nat.{ℕ, _+_, _≤_}
 use native.Mathlib.Omega.{arith}
 use Rattle.flow.specs.declared.PointerState.{PointerState}
-use Rattle.text.specs.declared.number.Number.{Number}
 use Rattle.text.specs.declared.number.Reason.{Reason}
 use Rattle.text.specs.declared.number.Reason.the-variants.{Ended, Blank, NotNumber, OutOfRange}
 use Rattle.text.specs.declared.input.Taken.{Taken}

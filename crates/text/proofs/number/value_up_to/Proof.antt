@@ -6,7 +6,7 @@ use mathlib.Core.Bool.{true}
 use mathlib.Core.Path.{_≡_, refl, sym, ap, _∙_}
 use native.Mathlib.Omega.{arith}
 use lib.ListN.{length, drop, getD}
-use Rattle.base.specs.Text.{digit, allDigits, valueAfter}
+use Rattle.base.specs.Text.{allDigits, valueAfter}
 use Rattle.base.proofs.Digits.{numeral-all, digit-range}
 use Rattle.text.specs.declared.number.Magnitude.the-variants.{Is}
 use Rattle.text.proofs.NumberLaws.{digits-both, value-on, value-end, value-le, too-large, is-magnitude}
