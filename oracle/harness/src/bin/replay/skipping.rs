@@ -1,7 +1,7 @@
 //! Run questions about lines that IntIn skips: what is counted, and what is not (rules 10.8, 10.9).
 use crate::jobs::{program, question, ROOM};
 use harness::machine::Room;
-use harness::paint::{ops, row_over_white};
+use harness::paint::{drawn, ops, row_over_white};
 use harness::question::Question;
 use piet_core::instruction::Instruction::{CharIn, IntIn, IntOut, Ptr, Push};
 
@@ -9,7 +9,7 @@ use piet_core::instruction::Instruction::{CharIn, IntIn, IntOut, Ptr, Push};
 const ONE_OF_EACH: &[u8] = b"7\n \nx\n99999999999999999999\n";
 
 pub fn jobs() -> Vec<Question> {
-    [counted(), for_each_reason(), left_before_the_end(), by_char_in(), round_and_round()].concat()
+    [counted(), for_each_reason(), stopped(), by_char_in(), round_and_round()].concat()
 }
 
 fn reading(count: usize, input: &[u8]) -> Question {
@@ -52,8 +52,8 @@ fn for_each_reason() -> Vec<Question> {
     all
 }
 
-/// Steps that are not taken: the counts are those before them.
-fn left_before_the_end() -> Vec<Question> {
+/// Bad input, no room for an output, nowhere to go: the counts are those of the steps taken.
+fn stopped() -> Vec<Question> {
     let bad: [&[u8]; 4] = [
         b"99999999999999999999\xFF\n",
         b" \nx\n\xFF\n",
@@ -64,6 +64,7 @@ fn left_before_the_end() -> Vec<Question> {
     let no_outputs = Room { outputs: 0, ..ROOM };
     let writing = program(&ops(&[IntIn, IntIn, Push, IntOut]), 0, b"x\n");
     all.push(Question { room: no_outputs, ..writing });
+    all.push(question(drawn(1, &["5c", "cc"]), 9, b"x\n"));
     all
 }
 
