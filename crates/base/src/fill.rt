@@ -26,6 +26,17 @@ pub fn fill_u32(d: &mut [u32], from: usize, to: usize, v: u32)
     }
 }
 
+pub fn fill_u64(d: &mut [u64], from: usize, to: usize, v: u64)
+    requires { ⌜ (from ≤ to) × (to ≤ length (now d)) ⌝ }
+    ensures { λ _. ⌜ now (d .exit) ≡ filled from to v (now (d .entry)) ⌝ }
+{
+    let mut i = from;
+    while i < to {
+        d[i] = v;
+        i += 1;
+    }
+}
+
 pub fn fill_i64(d: &mut [i64], from: usize, to: usize, v: i64)
     requires { ⌜ (from ≤ to) × (to ≤ length (now d)) ⌝ }
     ensures { λ _. ⌜ now (d .exit) ≡ filled from to v (now (d .entry)) ⌝ }

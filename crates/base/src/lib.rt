@@ -1,4 +1,5 @@
-// What every layer shares: bounds, writing text and numbers into a lent slice, and filling one.
+// What every layer shares: bounds, digits, writing text and numbers into a lent slice, and filling one.
+pub mod digit;
 pub mod fill;
 pub mod limits;
 pub mod put;

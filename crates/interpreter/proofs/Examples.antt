@@ -1,13 +1,18 @@
 -- The worked job (rule 13.8) on its table, and the order of the stops (rule 8.2), by computation. Assumes nothing.
 use mathlib.Core.Path.{_≡_, refl}
 use mathlib.Core.Bool.{Bool, true, false}
-use mathlib.Core.List.{List, [], _∷_}
+use mathlib.Core.List.{List, [], _∷_, _++_}
 use Prim.Native.Nat.{ℕ}
 use lib.IntN.{pos}
 use Rattle.base.specs.Numbers.{Numbers, numbers, first}
 use Rattle.flow.specs.Pointer.{attemptOf}
+use Rattle.text.specs.Utf8.{scalars, encodes}
+use Rattle.text.specs.Line.{lineLength}
+use Rattle.text.specs.Input.{intOf, pushOrSkip}
+use Rattle.text.specs.Reading.{chars, same, valid, takeOf}
 use Rattle.stack.specs.Instr.{pop}
-use Rattle.machine.specs.Machine.{Given, given, statusOf, read, exec, fitting}
+use Rattle.machine.specs.Skips.{oneMore, counted}
+use Rattle.machine.specs.Machine.{Given, given, statusOf, take, read, exec, fitting}
 use Rattle.machine.specs.Held.{Slices, slices}
 use Rattle.interpreter.specs.Table.{openFrom, any, every}
 use Rattle.interpreter.specs.Forever as Forever
@@ -21,6 +26,10 @@ rows = 12 ∷ 1 ∷ 0 ∷ 0 ∷ 1 ∷ 6 ∷ 1 ∷ 0 ∷ 1 ∷ 1 ∷ []
 abbrev exits : List ℕ
 exits = 524290 ∷ 589826 ∷ 0 ∷ 0 ∷ 0 ∷ 0 ∷ 0 ∷ 0 ∷ 0 ∷ 0 ∷ 0 ∷ 0 ∷ 1310721 ∷ 1376257 ∷ 0 ∷ 0 ∷ []
 
+-- an answer of eight numbers, and no number line skipped
+abbrev told : List ℕ → Numbers
+told values = numbers 0 (values ++ (0 ∷ 0 ∷ 0 ∷ 0 ∷ []))
+
 -- a limit and a mode, and no input
 abbrev with : ℕ → Bool → Given
 with limit mode = given (record { limit = limit; «abstract_mode» = mode }) []
@@ -30,7 +39,7 @@ abbrev used : Slices
 used = slices (pos 7 ∷ pos 8 ∷ pos 9 ∷ []) (5 ∷ []) (pos 6 ∷ pos 6 ∷ [])
 
 -- the worked job's result, in numbers; all other cells hold 0 (rule 8.6)
-pub job : (answer 2 rows exits (with 3 false) used ≡ numbers 0 (2 ∷ 3 ∷ 1 ∷ 0 ∷ 0 ∷ 1 ∷ 0 ∷ 0 ∷ []))
+pub job : (answer 2 rows exits (with 3 false) used ≡ told (2 ∷ 3 ∷ 1 ∷ 0 ∷ 0 ∷ 1 ∷ 0 ∷ 0 ∷ []))
     × (leftOf 2 rows exits (with 3 false) used ≡ slices (pos 1 ∷ pos 0 ∷ pos 0 ∷ []) (0 ∷ []) (pos 0 ∷ pos 0 ∷ []))
 unfolding attemptOf pop statusOf exec fitting openFrom any arrive after runOf first
 job = (refl, refl)
@@ -55,8 +64,8 @@ alone exit limit mode =
     answer 1 (6 ∷ 3 ∷ 0 ∷ 0 ∷ 1 ∷ []) (exit ∷ 0 ∷ 0 ∷ 0 ∷ 0 ∷ 0 ∷ 0 ∷ 0 ∷ []) (with limit mode) (slices [] [] [])
 
 -- no exit: Completed after 0 steps; with the limit 0, MaxSteps (rule 8.2)
-pub stops-at-once : (alone 0 5 false ≡ numbers 0 (1 ∷ 0 ∷ 0 ∷ 0 ∷ 0 ∷ 0 ∷ 0 ∷ 0 ∷ []))
-    × (alone 0 0 false ≡ numbers 0 (2 ∷ 0 ∷ 0 ∷ 0 ∷ 0 ∷ 0 ∷ 0 ∷ 0 ∷ []))
+pub stops-at-once : (alone 0 5 false ≡ told (1 ∷ 0 ∷ 0 ∷ 0 ∷ 0 ∷ 0 ∷ 0 ∷ 0 ∷ []))
+    × (alone 0 0 false ≡ told (2 ∷ 0 ∷ 0 ∷ 0 ∷ 0 ∷ 0 ∷ 0 ∷ 0 ∷ []))
 unfolding attemptOf statusOf openFrom any after runOf first
 stops-at-once = (refl, refl)
 
@@ -74,18 +83,23 @@ two exit limit mode = (answer 2 rows exits (with limit mode) cell, leftOf 2 rows
     cell = slices (pos 9 ∷ []) [] []
 
 -- the exit 8,388,610 to the second with IntIn, in abstract mode: MaxSteps before NeedsInput, NeedsInput before Completed
-pub in-order : (two 8388610 1 true .0 ≡ numbers 0 (2 ∷ 1 ∷ 1 ∷ 0 ∷ 0 ∷ 0 ∷ 0 ∷ 0 ∷ []))
-    × (two 8388610 5 true .0 ≡ numbers 0 (3 ∷ 1 ∷ 1 ∷ 0 ∷ 0 ∷ 0 ∷ 0 ∷ 0 ∷ []))
+pub in-order : (two 8388610 1 true .0 ≡ told (2 ∷ 1 ∷ 1 ∷ 0 ∷ 0 ∷ 0 ∷ 0 ∷ 0 ∷ []))
+    × (two 8388610 5 true .0 ≡ told (3 ∷ 1 ∷ 1 ∷ 0 ∷ 0 ∷ 0 ∷ 0 ∷ 0 ∷ []))
 unfolding attemptOf statusOf read exec fitting openFrom any arrive after runOf first
 in-order = (refl, refl)
 
+-- the same exit not in abstract mode, at the end of the input: a skipped line, counted by its reason
+pub at-end : two 8388610 5 false .0 ≡ numbers 0 (1 ∷ 1 ∷ 1 ∷ 0 ∷ 0 ∷ 0 ∷ 0 ∷ 0 ∷ 1 ∷ 0 ∷ 0 ∷ 0 ∷ [])
+unfolding attemptOf scalars encodes lineLength intOf pushOrSkip chars same valid takeOf oneMore counted statusOf take read exec fitting openFrom any arrive after runOf first
+at-end = refl
+
 -- the exit 524,290 to the second with Push: the size of the block just left
-pub block-left : (two 524290 5 false .0 ≡ numbers 0 (1 ∷ 1 ∷ 1 ∷ 0 ∷ 0 ∷ 1 ∷ 0 ∷ 0 ∷ []))
+pub block-left : (two 524290 5 false .0 ≡ told (1 ∷ 1 ∷ 1 ∷ 0 ∷ 0 ∷ 1 ∷ 0 ∷ 0 ∷ []))
     × (two 524290 5 false .1 ≡ slices (pos 3 ∷ []) [] [])
 unfolding attemptOf statusOf exec fitting openFrom any arrive after runOf first
 block-left = (refl, refl)
 
 -- the exit 524,289 with Push and no stack: the step isn't taken, StackFull after 0 steps
-pub stack-full : alone 524289 5 false ≡ numbers 0 (4 ∷ 0 ∷ 0 ∷ 0 ∷ 0 ∷ 0 ∷ 0 ∷ 0 ∷ [])
+pub stack-full : alone 524289 5 false ≡ told (4 ∷ 0 ∷ 0 ∷ 0 ∷ 0 ∷ 0 ∷ 0 ∷ 0 ∷ [])
 unfolding attemptOf statusOf exec fitting openFrom any arrive after runOf first
 stack-full = refl

@@ -1,6 +1,8 @@
 -- The history of a run.
 --     run-history      a run comes to its end by a list of exits that is as long as the steps made
 --     history-only     so many exits from one place are one list, and lead to one place
+--     history-skips    of each reason as many number lines are counted as its steps skipped for it
+--     run-few          and all in all no more than steps were made
 --     history-ends     where they lead is the last of the regions entered
 --     never-max        a step never halts with MaxSteps
 --     at-limit         MaxSteps comes exactly at the limit
@@ -10,19 +12,25 @@ use mathlib.Core.Path.{_≡_, refl, sym, ap, subst, _∙_}
 use mathlib.Core.Bool.{Bool, true, false, cond}
 use mathlib.Core.Logic.{_⊎_, inl, inr}
 use mathlib.Core.List.{List, [], _∷_, map}
-use Prim.Native.Nat.{ℕ, zero, suc, _+_, _<_}
+use Prim.Native.Nat.{ℕ, zero, suc, _+_, _<_, _≤_}
 use native.Mathlib.Omega.{arith}
 use lib.Dec.{eqb}
 use lib.ListN.{length, getD}
 use Rattle.base.proofs.Clash.{clash}
 use Rattle.machine.specs.declared.Stop.{Stop}
 use Rattle.machine.specs.declared.Stop.the-variants.{Completed, MaxSteps, NeedsInput}
-use Rattle.machine.specs.Machine.{underLimit, Out, keeps, stops, fitting}
-use Rattle.machine.specs.Place.{Machine}
-use Rattle.machine.proofs.Fitting.{fit-stops, not-limit, exec-limit}
+use Rattle.text.specs.declared.number.Reason.{Reason}
+use Rattle.machine.specs.Skips.{countOf, total, times}
+use Rattle.machine.specs.Machine.{underLimit, Out, keeps, stops, fitting, withPointers}
+use Rattle.machine.specs.Skipped.{skipped}
+use Rattle.machine.specs.Place.{Machine, start}
+use Rattle.machine.proofs.Fitting.{fit-kept, fit-stops, not-limit, exec-limit}
+use Rattle.machine.proofs.Skipping.{exec-counts, exec-total, skipped-same, times-append}
 use Rattle.table.specs.ExitNumber.{targetOf}
-use Rattle.interpreter.specs.Run.{Job, Went, goes, halts, arrive, exitFrom, effectOf, through, leave, stepOf, after, runOf}
-use Rattle.interpreter.specs.History.{Passes, stays, passes, History, regionsOf}
+use Rattle.table.specs.Layout.{sizeOf}
+use Rattle.interpreter.specs.Table.{pointersOf, opOf}
+use Rattle.interpreter.specs.Run.{Job, Went, goes, halts, arrive, exitFrom, effectOf, through, leave, stepOf, after, runOf, ran}
+use Rattle.interpreter.specs.History.{Passes, stays, passes, reasonsOf, History, regionsOf}
 
 -- what a step that is taken came to
 pub record Kept (j : Job) (m m′ : Machine) : Type 0 where
@@ -85,9 +93,32 @@ module _ (j : Job) where
       go (ends a b) q = clash cc
       go (barred a b k) q = not-limit (fit-stops (j .room) (effectOf j (exitFrom j m) m) k) q
 
+  -- the counts after a step that is kept, and after all of a history
+  step-skips : (m m′ : Machine) → stepOf j m ≡ goes m′ → (why : Reason)
+      → countOf why (m′ .store .reading .skips)
+      ≡ countOf why (m .store .reading .skips) + times why (skipped (j .given) (opOf (exitFrom j m)) (m .store))
+  step-skips m m′ e why =
+      let w = exitFrom j m in
+      let k = step-kept m m′ e in
+      exec-counts (j .given) (sizeOf (j .rows) (m .region)) (opOf w) (withPointers (pointersOf w) (m .store))
+      (fit-kept (j .room) (effectOf j w m) (k .store)) why
+      ∙ ap (λ (ws : List Reason). countOf why (m .store .reading .skips) + times why ws) (skipped-same (j .given) (opOf w) (pointersOf w) (m .store))
+
+  pub history-skips : {m m′ : Machine} {ws : List ℕ} (p : Passes j m ws m′) (why : Reason)
+      → countOf why (m′ .store .reading .skips) ≡ countOf why (m .store .reading .skips) + times why (reasonsOf j p)
+  unfolding reasonsOf times
+  history-skips stays why = omega arith
+  history-skips {m} (passes {m′ = a} s p) why =
+      omega (
+        arith,
+        step-skips m a s why,
+        history-skips p why,
+        times-append why (skipped (j .given) (opOf (exitFrom j m)) (m .store)) (reasonsOf j p),
+      )
+
   pub run-history : (k : ℕ) (m : Machine) → History j k m (runOf j k m)
   unfolding runOf after
-  run-history zero m = record { exits = []; passes = stays; counted = omega arith; within = omega arith; why = inl (refl, refl) }
+  run-history zero m = record { exits = []; passes = stays; counted = omega arith; skips = history-skips stays; within = omega arith; why = inl (refl, refl) }
   run-history (suc k) m = go (stepOf j m) refl (run-history k)
     where
       longer : {s : Stop} (m′ : Machine) (c : ℕ)
@@ -103,10 +134,27 @@ module _ (j : Job) where
             exits = exitFrom j m ∷ r .exits;
             passes = passes e (r .passes);
             counted = omega (arith, r .counted, step-kept m m′ e .counted);
+            skips = history-skips (passes e (r .passes));
             within = omega (arith, r .within);
             why = longer (runOf j k m′ .at) (length (r .exits)) (r .why);
           }
-      go (halts s) e f = record { exits = []; passes = stays; counted = omega arith; within = omega arith; why = inr (e, omega arith) }
+      go (halts s) e f = record { exits = []; passes = stays; counted = omega arith; skips = history-skips stays; within = omega arith; why = inr (e, omega arith) }
+
+  step-few : (m m′ : Machine) → stepOf j m ≡ goes m′ → total (m′ .store .reading .skips) ≤ total (m .store .reading .skips) + 1
+  step-few m m′ e =
+      let w = exitFrom j m in
+      exec-total (j .given) (sizeOf (j .rows) (m .region)) (opOf w) (withPointers (pointersOf w) (m .store))
+      (fit-kept (j .room) (effectOf j w m) (step-kept m m′ e .store))
+
+  history-few : {m m′ : Machine} {ws : List ℕ} → Passes j m ws m′
+      → total (m′ .store .reading .skips) ≤ total (m .store .reading .skips) + length ws
+  history-few stays = omega arith
+  history-few {m} (passes {m′ = a} s p) = omega (arith, step-few m a s, history-few p)
+
+  pub run-few : total (ran j .at .store .reading .skips) ≤ ran j .at .steps
+  run-few =
+      let h = run-history (j .given .terms .limit) start in
+      omega (arith, history-few (h .passes), h .counted)
 
   pub history-only : {m m′ m″ : Machine} {ws ws′ : List ℕ} → Passes j m ws m′ → Passes j m ws′ m″ → length ws ≡ length ws′
       → (ws ≡ ws′) × (m′ ≡ m″)

@@ -118,4 +118,5 @@ placed-start n stack kinds values h s k v = record {
     valid = record { dp = omega arith; cc = omega arith };
   };
   inside = h;
+  few = omega arith;
 }

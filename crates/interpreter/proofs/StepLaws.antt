@@ -2,7 +2,7 @@
 use mathlib.Core.Path.{_≡_, refl, sym, ap, _∙_}
 use mathlib.Core.Bool.{Bool, true, false, cond}
 use mathlib.Core.List.{List}
-use Prim.Native.Nat.{ℕ, zero, suc, _+_, _<_}
+use Prim.Native.Nat.{ℕ, zero, suc, _+_, _<_, _≤_}
 use native.Mathlib.Omega.{arith}
 use borrow.Author.Tests.{ne-eqb, eq-eqb}
 use lib.Dec.{eqb}
@@ -14,7 +14,10 @@ use Rattle.machine.specs.declared.Done.the-variants.{Kept, Stops}
 use Rattle.machine.specs.declared.Stop.{Stop}
 use Rattle.machine.specs.declared.Stop.the-variants.{NeedsInput, Completed}
 use Rattle.machine.specs.Machine.{Given, exec}
-use Rattle.machine.specs.Held.{Slices, Stands, outOf, After as Left, Execs, atPointers}
+use Rattle.machine.specs.Skips.{total}
+use Rattle.machine.specs.Held.{Slices, roomOf, storeOf, Stands, outOf, After as Left, Execs, atPointers}
+use Rattle.machine.proofs.Fitting.{fit-kept}
+use Rattle.machine.proofs.Skipping.{exec-total}
 use Rattle.interpreter.specs.Table.{pointersOf, opOf, tried, openFrom, exitOf, Good}
 use Rattle.table.specs.Layout.{sizeOf}
 use Rattle.interpreter.specs.Run.{arrive, through, stepOf}
@@ -34,12 +37,15 @@ module _ (rows exits : List ℕ) (g : Given) (n : ℕ) (l : Slices) (at : State)
   module _ (w : ℕ) (l′ : Slices) where
     pub moved : (next : Core)
         → Execs (exec g (sizeOf rows (at .region)) (opOf w)) l (atPointers (pointersOf w) (at .core)) l′ (Kept next)
-        → targetOf w < n
+        → targetOf w < n → total (at .core .reading .skips) ≤ at .steps
         → Steps (through (jobOf rows exits g l) w (machineOf l at)) n l at l′
         (To (record { region = targetOf w; steps = at .steps + 1; core = next }))
     unfolding outOf Left arrive nextOf After
-    moved next x t =
-        record { is = ap (arrive w (machineOf l at)) (x .is); leaves = (record { stands = x .leaves; inside = t }, refl) }
+    moved next x t few =
+        record { is = ap (arrive w (machineOf l at)) (x .is); leaves = (record { stands = x .leaves; inside = t; few = omega (arith, one-more) }, refl) }
+      where
+        one-more : total (next .reading .skips) ≤ total (at .core .reading .skips) + 1
+        one-more = exec-total g (sizeOf rows (at .region)) (opOf w) (storeOf l (atPointers (pointersOf w) (at .core))) (fit-kept (roomOf l) _ (sym (x .is)))
 
     pub halted : (s : Stop)
         → Execs (exec g (sizeOf rows (at .region)) (opOf w)) l (atPointers (pointersOf w) (at .core)) l′ (Stops s)

@@ -1,12 +1,17 @@
--- The history of a run over any table: the exits that it takes, in order, and the regions that it enters. Assumes nothing.
+-- The history of a run over any table: the exits that it takes, in order, the regions that it enters, and the number lines that
+-- it skips. Assumes nothing.
 use mathlib.Core.Path.{_≡_}
 use mathlib.Core.Logic.{_⊎_}
-use mathlib.Core.List.{List, [], _∷_, map}
+use mathlib.Core.List.{List, [], _∷_, _++_, map}
 use Prim.Native.Nat.{ℕ, _+_, _<_, _≤_}
 use lib.ListN.{length}
 use Rattle.table.specs.ExitNumber.{targetOf}
+use Rattle.text.specs.declared.number.Reason.{Reason}
 use Rattle.machine.specs.declared.Stop.the-variants.{MaxSteps}
+use Rattle.machine.specs.Skips.{countOf, times}
+use Rattle.machine.specs.Skipped.{skipped}
 use Rattle.machine.specs.Place.{Machine, End}
+use Rattle.interpreter.specs.Table.{opOf}
 use Rattle.interpreter.specs.Run.{Job, goes, halts, exitFrom, stepOf}
 
 module _ (j : Job) where
@@ -15,12 +20,19 @@ module _ (j : Job) where
     stays : {m : Machine} → Passes m [] m
     passes : {m m′ m″ : Machine} {exits : List ℕ} → stepOf j m ≡ goes m′ → Passes m′ exits m″ → Passes m (exitFrom j m ∷ exits) m″
 
+  -- the reasons for which the steps of a history skipped number lines (rule 10.9), in order
+  unfoldable pub reasonsOf : {m m′ : Machine} {exits : List ℕ} → Passes m exits m′ → List Reason
+  reasonsOf stays = []
+  reasonsOf (passes {m = m} step rest) = skipped (j .given) (opOf (exitFrom j m)) (m .store) ++ reasonsOf rest
+
   -- a run of at most k steps from m ends in e: by these exits, which are as many as the steps made, and for the reason
-  -- reported: all k steps were made, or the next one halts
+  -- reported: all k steps were made, or the next one halts. Of each reason as many number lines more are counted as its steps
+  -- skipped for it
   pub record History (k : ℕ) (m : Machine) (e : End) : Type 0 where
     pub exits : List ℕ
     pub passes : Passes m exits (e .at)
     pub counted : e .at .steps ≡ m .steps + length exits
+    pub skips : (why : Reason) → countOf why (e .at .store .reading .skips) ≡ countOf why (m .store .reading .skips) + times why (reasonsOf passes)
     pub within : length exits ≤ k
     pub why : ((e .stop ≡ MaxSteps) × (length exits ≡ k)) ⊎ ((stepOf j (e .at) ≡ halts (e .stop)) × (length exits < k))
 

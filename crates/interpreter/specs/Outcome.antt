@@ -7,6 +7,7 @@ use lib.IntN.{ℤ, pos}
 use Rattle.base.specs.Numbers.{Numbers, numbers, Row, row, first, unlessRefused}
 use Rattle.machine.specs.declared.Core.{Core}
 use Rattle.machine.specs.Output.{Emit}
+use Rattle.machine.specs.Skips.{countsOf}
 use Rattle.machine.specs.Machine.{Given, Store, statusOf}
 use Rattle.machine.specs.Place.{Machine, End}
 use Rattle.machine.specs.Held.{Slices, slices, roomOf}
@@ -40,17 +41,20 @@ placeOf m = record { region = m .region; steps = m .steps; core = coreOf (m .sto
 abbrev pub endedOf : End → Ended
 endedOf e = record { stop = e .stop; at = placeOf (e .at) }
 
--- the eight numbers of a result (rule 8.5)
+-- the numbers of a result (rule 8.5), and how many they are
 abbrev pub resultOf : Ended → List ℕ
 resultOf e =
     statusOf (e .stop) ∷ e .at .steps ∷ e .at .region ∷ e .at .core .pointers .dp ∷ e .at .core .pointers .cc ∷ e .at .core .depth
     ∷ e .at .core .outputs
     ∷ e .at .core .reading .used
-    ∷ []
+    ∷ countsOf (e .at .core .reading .skips)
+
+abbrev pub resultCells : ℕ
+resultCells = 12
 
 -- a refusal has zeros beside its number (rule 12.1)
 abbrev pub refused : ℕ → Numbers
-refused number = numbers number (0 ∷ 0 ∷ 0 ∷ 0 ∷ 0 ∷ 0 ∷ 0 ∷ 0 ∷ [])
+refused number = numbers number (replicate resultCells 0)
 
 -- the answer in numbers (rules 8.5, 12.2)
 unfoldable pub numbered : Ran → Numbers
@@ -75,7 +79,7 @@ answer n rows exits g l = first (refusals n rows exits) (numbers 0 (resultOf (en
 abbrev pub leftOf : ℕ → List ℕ → List ℕ → Given → Slices → Slices
 leftOf n rows exits g l = unlessRefused (answer n rows exits g l) (slicesOf l (endOf rows exits g l .at .store)) l
 
--- what a call answers and leaves. The eight numbers do not tell whether input is awaited, so the place where a finished
+-- what a call answers and leaves. The numbers do not tell whether input is awaited, so the place where a finished
 -- run ended is settled besides.
 pub record Outcome (n : ℕ) (rows exits : List ℕ) (g : Given) (l : Slices) (r : Ran) (l′ : Slices) : Type 0 where
   pub answers : numbered r ≡ answer n rows exits g l

@@ -1,7 +1,8 @@
 -- Where a run may be taken up again, and what `resume` makes of it (rule 8.8). Assumes nothing.
 use mathlib.Core.Path.{_≡_}
 use mathlib.Core.List.{List}
-use Prim.Native.Nat.{ℕ, _-_, _<_}
+use Prim.Native.Nat.{ℕ, _-_, _<_, _≤_}
+use Rattle.machine.specs.Skips.{total}
 use Rattle.machine.specs.Machine.{Given}
 use Rattle.machine.specs.Place.{Machine, End}
 use Rattle.machine.specs.Held.{Slices, storeOf, Stands}
@@ -16,10 +17,11 @@ use Rattle.interpreter.specs.Outcome.{jobOf, endOf}
 abbrev pub machineOf : Slices → State → Machine
 machineOf l at = record { region = at .region; steps = at .steps; store = storeOf l (at .core) }
 
--- a place of a table of n regions, with the slices as they stand there
+-- a place of a table of n regions, with the slices as they stand there; no more number lines were skipped than steps made
 pub record Placed (n : ℕ) (l : Slices) (at : State) : Type 0 where
   pub stands : Stands l (at .core)
   pub inside : at .region < n
+  pub few : total (at .core .reading .skips) ≤ at .steps
 
 -- the place and the slices in which a run ended are those of e, and it may be resumed from there
 pub record Reaches (n : ℕ) (e : End) (l : Slices) (r : Ended) : Type 0 where

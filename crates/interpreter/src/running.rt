@@ -16,6 +16,7 @@ use base::fill::fill_u8;
 use flow::PointerState;
 use machine::Core;
 use machine::Reading;
+use machine::Skips;
 use machine::Stop;
 use machine::Terms;
 
@@ -82,6 +83,12 @@ fn run_valid(
             reading: Reading {
                 used: 0,
                 awaiting: false,
+                skips: Skips {
+                    ended: 0,
+                    blank: 0,
+                    not_number: 0,
+                    out_of_range: 0,
+                },
             },
         },
     };

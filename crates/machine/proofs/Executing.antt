@@ -10,6 +10,7 @@ use lib.IntN.{ℤ, pos}
 use Rattle.flow.specs.declared.PointerState.{PointerState}
 use Rattle.flow.specs.Pointer.{Valid}
 use Rattle.text.specs.declared.number.Number.{Number}
+use Rattle.text.specs.declared.number.Reason.{Reason}
 use Rattle.text.specs.declared.input.Taken.{Taken}
 use Rattle.text.specs.declared.input.Taken.the-variants as Line
 use Rattle.text.specs.Reading.{takeOf}
@@ -25,8 +26,9 @@ use Rattle.machine.specs.declared.Stop.the-variants.{BadInput}
 use Rattle.machine.specs.declared.output.Wrote.{Wrote}
 use Rattle.machine.specs.declared.output.Wrote.the-variants as Write
 use Rattle.machine.specs.Output.{Emit, outsOf, ofTop, Puts}
-use Rattle.machine.specs.Machine.{Given, RunRoom, Store, Effect, does, keeps, withStack, withPointers, withOuts, withUsed, onStack, byTop, turn, write, take, read, fitting}
-use Rattle.machine.specs.Held.{slices, roomOf, storeOf, Stands, outOf, After, Execs, StackExecs, atDepth, atOutputs, atUsed, atPointers, atWait, grownOf, wroteOf}
+use Rattle.machine.specs.Skips.{counted}
+use Rattle.machine.specs.Machine.{Given, RunRoom, Store, Effect, does, keeps, withStack, withPointers, withOuts, withUsed, onStack, byTop, turn, write, take, takeNumber, read, fitting}
+use Rattle.machine.specs.Held.{slices, roomOf, storeOf, Stands, outOf, After, Execs, StackExecs, atDepth, atOutputs, atUsed, atPointers, atWait, atSkips, grownOf, wroteOf}
 use Rattle.machine.proofs.Emitting.{outs-length}
 
 -- a store that fits is kept
@@ -141,34 +143,41 @@ module _ (stack : List ℤ) (kinds : List ℕ) (values : List ℤ) (at : Core) w
       leaves = ap (λ (t : List ℤ). slices t kinds values) (q .same);
     }
 
-    pub skipped : (n : ℕ) → Execs (take (Line.Skip n)) (slices stack kinds values) at (slices stack kinds values) (Kept (atUsed n at))
+    pub skipped : (n : ℕ) (why : Reason) → Execs (take (Line.Skip n why)) (slices stack kinds values) at (slices stack kinds values) (Kept (atUsed n at))
     unfolding take
-    skipped n =
-        kept (take (Line.Skip n)) stack kinds values (atUsed n at) (record { lies = s .lies; holds = s .holds; valid = s .valid })
+    skipped n why =
+        kept (take (Line.Skip n why)) stack kinds values (atUsed n at) (record { lies = s .lies; holds = s .holds; valid = s .valid })
         refl refl refl refl
 
     pub bad : Execs (take Line.BadInput) (slices stack kinds values) at (slices stack kinds values) (Stops BadInput)
     unfolding fitting outOf take After
     bad = record { is = refl; leaves = refl }
 
-    pub waits : (f : List ℕ → Number) (g : Given) → g .terms .«abstract_mode» ≡ true
-        → Execs (read g f) (slices stack kinds values) at (slices stack kinds values) (Kept (atWait at))
+    pub waits : (f : List ℕ → Number) (takes : Taken → Store → Effect) (g : Given) → g .terms .«abstract_mode» ≡ true
+        → Execs (read g f takes) (slices stack kinds values) at (slices stack kinds values) (Kept (atWait at))
     unfolding read
-    waits f g e =
-        kept (read g f) stack kinds values (atWait at) (record { lies = s .lies; holds = s .holds; valid = s .valid })
+    waits f takes g e =
+        kept (read g f takes) stack kinds values (atWait at) (record { lies = s .lies; holds = s .holds; valid = s .valid })
         refl refl refl (rw e refl)
 
 -- what the text gives is what is taken
-pub reads : (f : List ℕ → Number) (g : Given) (t : Taken) (stack stack′ : List ℤ) (at : Core) (r : Done)
-    → g .terms .«abstract_mode» ≡ false → t ≡ takeOf f (g .input) (at .reading .used) → StackExecs (take t) stack at stack′ r
-    → StackExecs (read g f) stack at stack′ r
+pub reads : (f : List ℕ → Number) (takes : Taken → Store → Effect) (g : Given) (t : Taken) (stack stack′ : List ℤ) (at : Core) (r : Done)
+    → g .terms .«abstract_mode» ≡ false → t ≡ takeOf f (g .input) (at .reading .used) → StackExecs (takes t) stack at stack′ r
+    → StackExecs (read g f takes) stack at stack′ r
 unfolding read
-reads f g t stack stack′ at r unmet e x kinds values h =
+reads f takes g t stack stack′ at r unmet e x kinds values h =
     let y = x kinds values h in
     record {
       is =
           y .is
-          ∙ ap (λ (u : Taken). fitting (roomOf (slices stack kinds values)) (take u (storeOf (slices stack kinds values) at))) e
+          ∙ ap (λ (u : Taken). fitting (roomOf (slices stack kinds values)) (takes u (storeOf (slices stack kinds values) at))) e
           ∙ rw unmet refl;
       leaves = y .leaves;
     }
+
+-- a number line is taken from where its reason is counted already
+pub takes-number : (t : Taken) (stack stack′ : List ℤ) (at : Core) (r : Done)
+    → StackExecs (take t) stack (atSkips (counted t (at .reading .skips)) at) stack′ r → StackExecs (takeNumber t) stack at stack′ r
+takes-number t stack stack′ at r x kinds values h =
+    let y = x kinds values h in
+    record { is = y .is; leaves = y .leaves }

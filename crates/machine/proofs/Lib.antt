@@ -2,6 +2,7 @@
 pub mod Emitting
 pub mod Executing
 pub mod Fitting
+pub mod Skipping
 pub mod Unique
 pub mod Only
 pub mod Examples

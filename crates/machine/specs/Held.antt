@@ -1,7 +1,7 @@
 -- What the code holds of a store: numbers in a `Core`, the stack and the outputs in three lent slices. Assumes nothing.
 use mathlib.Core.Path.{_≡_}
 use mathlib.Core.List.{List}
-use Prim.Native.Nat.{ℕ, min}
+use Prim.Native.Nat.{ℕ, min, _+_, _^_, _<_}
 use lib.ListN.{length}
 use lib.IntN.{ℤ}
 use Rattle.flow.specs.declared.PointerState.{PointerState}
@@ -11,13 +11,15 @@ use Rattle.stack.specs.declared.Grown.the-variants as Grow
 use Rattle.stack.specs.Stack.{stackOf, Lies}
 use Rattle.machine.specs.declared.Core.{Core}
 use Rattle.machine.specs.declared.Reading.{Reading}
+use Rattle.machine.specs.declared.Skips.{Skips}
 use Rattle.machine.specs.declared.Done.{Done}
 use Rattle.machine.specs.declared.Done.the-variants.{Kept, Stops}
 use Rattle.machine.specs.declared.Stop.the-variants.{StackFull, OutputFull}
 use Rattle.machine.specs.declared.output.Wrote.{Wrote}
 use Rattle.machine.specs.declared.output.Wrote.the-variants as Write
 use Rattle.machine.specs.Output.{outsOf, Holds}
-use Rattle.machine.specs.Machine.{RunRoom, usedTo, waitsFor, Store, Effect, Out, keeps, stops, fitting}
+use Rattle.machine.specs.Skips.{total}
+use Rattle.machine.specs.Machine.{RunRoom, usedTo, waitsFor, skipsTo, Store, Effect, Out, keeps, stops, fitting}
 
 -- the three lent slices
 pub record Slices : Type 0 where
@@ -46,6 +48,10 @@ pub record Stands (l : Slices) (at : Core) : Type 0 where
   pub lies : Lies (l .stack) (at .depth)
   pub holds : Holds (l .kinds) (l .values) (at .outputs)
   pub valid : Valid (at .pointers)
+
+-- one line more can be counted in 64 bits
+abbrev pub Countable : Core → Type 0
+Countable at = total (at .reading .skips) + 1 < 2 ^ 64
 
 -- what an answer with the slices after it says
 unfoldable pub outOf : Slices → Done → Out
@@ -85,6 +91,9 @@ atUsed n at = atReading (usedTo n (at .reading)) at
 
 abbrev pub atWait : Core → Core
 atWait at = atReading (waitsFor (at .reading)) at
+
+abbrev pub atSkips : Skips → Core → Core
+atSkips s at = atReading (skipsTo s (at .reading)) at
 
 -- the answer of an instruction that may need a cell more, and of one that may emit
 unfoldable pub grownOf : Core → Grown → Done

@@ -18,9 +18,11 @@ use Rattle.machine.specs.declared.Op.{Op}
 use Rattle.machine.specs.declared.Op.the-variants.{Nothing, Push, Pop, Pair, Not, Ptr, Swi, Dup, Roll, CharIn, CharOut, IntIn, IntOut}
 use Rattle.machine.specs.declared.Terms.{Terms}
 use Rattle.machine.specs.declared.Reading.{Reading}
+use Rattle.machine.specs.declared.Skips.{Skips}
 use Rattle.machine.specs.declared.Stop.{Stop}
 use Rattle.machine.specs.declared.Stop.the-variants.{Completed, MaxSteps, NeedsInput, StackFull, OutputFull, BadInput}
 use Rattle.machine.specs.Output.{Emit, ofTop, charOut, intOut}
+use Rattle.machine.specs.Skips.{counted}
 
 -- the instructions by number (rule 1.5)
 abbrev pub ops : List Op
@@ -58,12 +60,15 @@ pub record RunRoom : Type 0 where
   pub stack : ℕ
   pub outs : ℕ
 
--- the reading of the input: so many bytes used; an input instruction met in abstract mode
+-- the reading of the input: so many bytes used; an input instruction met in abstract mode; number lines skipped
 abbrev pub usedTo : ℕ → Reading → Reading
-usedTo n r = record { used = n; awaiting = r .awaiting }
+usedTo n r = record { used = n; awaiting = r .awaiting; skips = r .skips }
 
 abbrev pub waitsFor : Reading → Reading
-waitsFor r = record { used = r .used; awaiting = true }
+waitsFor r = record { used = r .used; awaiting = true; skips = r .skips }
+
+abbrev pub skipsTo : Skips → Reading → Reading
+skipsTo s r = record { used = r .used; awaiting = r .awaiting; skips = s }
 
 -- what an instruction works on: the stack, top first; the outputs, in order; what was read of the input
 pub record Store : Type 0 where
@@ -90,6 +95,9 @@ withUsed n m = withReading (usedTo n (m .reading)) m
 abbrev pub waiting : Store → Store
 waiting m = withReading (waitsFor (m .reading)) m
 
+abbrev pub withSkips : Skips → Store → Store
+withSkips s m = withReading (skipsTo s (m .reading)) m
+
 -- what an instruction comes to; `bad-input` where its line is not UTF-8 (rule 11.6)
 pub data Effect : Type 0 where
   does : Store → Effect
@@ -114,12 +122,16 @@ write f m = does (withStack (Instr.pop (m .stack)) (withOuts (m .outs ++ ofTop f
 -- CharIn, IntIn: the line is gone, and what it gives, if anything, is pushed (rule 10.4)
 unfoldable pub take : Taken → Store → Effect
 take (Line.Push v n) m = does (withUsed n (withStack (v ∷ m .stack) m))
-take (Line.Skip n) m = does (withUsed n m)
+take (Line.Skip n why) m = does (withUsed n m)
 take Line.BadInput m = bad-input
 
+-- IntIn: a line that it skips is counted besides, by the reason (rule 10.9)
+abbrev pub takeNumber : Taken → Store → Effect
+takeNumber t m = take t (withSkips (counted t (m .reading .skips)) m)
+
 -- in abstract mode nothing is read, and input is awaited (rule 10.7); else a line is taken (rule 10.1)
-unfoldable pub read : Given → (List ℕ → Number) → Store → Effect
-read g f m = cond (g .terms .«abstract_mode») (does (waiting m)) (take (takeOf f (g .input) (m .reading .used)) m)
+unfoldable pub read : Given → (List ℕ → Number) → (Taken → Store → Effect) → Store → Effect
+read g f takes m = cond (g .terms .«abstract_mode») (does (waiting m)) (takes (takeOf f (g .input) (m .reading .used)) m)
 
 -- one instruction; size is that of the block just left (rule 8.3)
 unfoldable pub exec : Given → ℕ → Op → Store → Effect
@@ -132,9 +144,9 @@ exec g size Ptr m = turn rotated m
 exec g size Swi m = turn switched m
 exec g size Dup m = onStack Instr.dup m
 exec g size Roll m = onStack Instr.roll m
-exec g size CharIn m = read g charOf m
+exec g size CharIn m = read g charOf take m
 exec g size CharOut m = write charOut m
-exec g size IntIn m = read g intOf m
+exec g size IntIn m = read g intOf takeNumber m
 exec g size IntOut m = write intOut m
 
 -- what a step comes to: it is kept, or it is not taken and the run stops

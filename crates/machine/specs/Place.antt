@@ -4,6 +4,7 @@ use mathlib.Core.List.{[]}
 use Prim.Native.Nat.{ℕ}
 use Rattle.flow.specs.Pointer.{startState}
 use Rattle.machine.specs.declared.Stop.{Stop}
+use Rattle.machine.specs.Skips.{noSkips}
 use Rattle.machine.specs.Machine.{Store}
 
 -- the region, the steps made, and what the instructions work on
@@ -17,7 +18,7 @@ abbrev pub start : Machine
 start = record {
   region = 0;
   steps = 0;
-  store = record { pointers = startState; stack = []; outs = []; reading = record { used = 0; awaiting = false } };
+  store = record { pointers = startState; stack = []; outs = []; reading = record { used = 0; awaiting = false; skips = noSkips } };
 }
 
 -- where a run ends: why, and where it stands, which is as before a step that isn't taken

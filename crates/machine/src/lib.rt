@@ -6,12 +6,15 @@ use flow::PointerState;
 use stack::Grown;
 use stack::Pairing;
 use text::input::Taken;
+use text::number::Reason;
 ghost use mathlib.Core.Path.{_≡_};
+ghost use Prim.Native.Nat.{_+_, _^_, _<_};
 ghost use Rattle.flow.specs.Pointer.{Valid, rotated, switched};
 ghost use Rattle.text.specs.Input.{charOf, intOf};
 ghost use Rattle.stack.specs.Stack.{Lies};
-ghost use Rattle.machine.specs.Machine.{given, exec, take, turn, read, opNumbered, statusOf};
-ghost use Rattle.machine.specs.Held.{slices, Stands, Execs, StackExecs, atDepth, atOutputs, atUsed, atPointers, atWait, grownOf, wroteOf};
+ghost use Rattle.machine.specs.Skips.{total, oneMore, counted};
+ghost use Rattle.machine.specs.Machine.{given, exec, take, takeNumber, turn, read, opNumbered, statusOf};
+ghost use Rattle.machine.specs.Held.{slices, Stands, Countable, Execs, StackExecs, atDepth, atOutputs, atUsed, atPointers, atWait, atSkips, grownOf, wroteOf};
 
 // The instructions; Nothing is what a slide's or a black region's exit carries.
 pub enum Op {
@@ -46,10 +49,19 @@ pub enum Stop {
     BadInput,
 }
 
-// What was read of the input: the bytes used; awaiting: an input instruction was met in abstract mode.
+// How many number lines were skipped, by the reason (rule 10.9).
+pub struct Skips {
+    pub ended: u64,
+    pub blank: u64,
+    pub not_number: u64,
+    pub out_of_range: u64,
+}
+
+// What was read of the input: the bytes used; awaiting: an input instruction was met in abstract mode; the lines skipped.
 pub struct Reading {
     pub used: usize,
     pub awaiting: bool,
+    pub skips: Skips,
 }
 
 // What an instruction works on, beside the lent slices.
@@ -64,6 +76,41 @@ pub struct Core {
 pub enum Done {
     Kept(Core),
     Stops(Stop),
+}
+
+impl Skips {
+    fn one_more(mut self, why: Reason) -> Skips
+        requires { ⌜ total self + 1 < 2 ^ 64 ⌝ }
+        ensures { λ r. ⌜ r ≡ oneMore why self ⌝ }
+    {
+        match why {
+            Reason::Ended => {
+                self.ended += 1;
+            }
+            Reason::Blank => {
+                self.blank += 1;
+            }
+            Reason::NotNumber => {
+                self.not_number += 1;
+            }
+            Reason::OutOfRange => {
+                self.out_of_range += 1;
+            }
+        }
+        self
+    }
+
+    // The counts after a number line was taken.
+    fn after(self, taken: Taken) -> Skips
+        requires { ⌜ total self + 1 < 2 ^ 64 ⌝ }
+        ensures { λ r. ⌜ r ≡ counted taken self ⌝ }
+    {
+        match taken {
+            Taken::Push { value: _, next: _ } => self,
+            Taken::Skip { next: _, why } => self.one_more(why),
+            Taken::BadInput => self,
+        }
+    }
 }
 
 // One field set, so that an instruction names only what it changes.
@@ -100,6 +147,15 @@ impl Core {
         ensures { λ r. ⌜ r ≡ atWait self ⌝ }
     {
         self.reading.awaiting = true;
+        self
+    }
+
+    fn at_skips(mut self, skips: Skips) -> Core
+        ensures { λ r. ⌜ r ≡ atSkips skips self ⌝ }
+    {
+        let mut reading = self.reading;
+        reading.skips = skips;
+        self.reading = reading;
         self
     }
 }
@@ -208,7 +264,7 @@ fn take(stack: &mut [i64], at: Core, taken: Taken) -> Done
         Taken::Push { value, next } => {
             after_growth(at.at_used(next), stack::grow(stack, depth, value))
         }
-        Taken::Skip { next } => Done::Kept(at.at_used(next)),
+        Taken::Skip { next, why: _ } => Done::Kept(at.at_used(next)),
         Taken::BadInput => Done::Stops(Stop::BadInput),
     }
 }
@@ -217,7 +273,7 @@ fn take(stack: &mut [i64], at: Core, taken: Taken) -> Done
 fn char_in(terms: Terms, input: &[u8], stack: &mut [i64], at: Core) -> Done
     requires { ⌜ Lies (now stack) (at .depth) ⌝ }
     requires { ⌜ Valid (at .pointers) ⌝ }
-    ensures { λ r. ⌜ StackExecs (read (given terms (now (input .entry))) charOf) (now (stack .entry)) at (now (stack .exit)) r ⌝ }
+    ensures { λ r. ⌜ StackExecs (read (given terms (now (input .entry))) charOf take) (now (stack .entry)) at (now (stack .exit)) r ⌝ }
 {
     if terms.abstract_mode {
         return Done::Kept(at.at_wait());
@@ -226,17 +282,20 @@ fn char_in(terms: Terms, input: &[u8], stack: &mut [i64], at: Core) -> Done
     take(stack, at, text::input::char_in(input, used))
 }
 
-// IntIn: the number that a line is; in abstract mode nothing is read, and the run is to stop.
+// IntIn: the number that a line is, or one skipped line more; in abstract mode nothing is read, and the run is to stop.
 fn int_in(terms: Terms, input: &[u8], stack: &mut [i64], at: Core) -> Done
     requires { ⌜ Lies (now stack) (at .depth) ⌝ }
     requires { ⌜ Valid (at .pointers) ⌝ }
-    ensures { λ r. ⌜ StackExecs (read (given terms (now (input .entry))) intOf) (now (stack .entry)) at (now (stack .exit)) r ⌝ }
+    requires { ⌜ Countable at ⌝ }
+    ensures { λ r. ⌜ StackExecs (read (given terms (now (input .entry))) intOf takeNumber) (now (stack .entry)) at (now (stack .exit)) r ⌝ }
 {
     if terms.abstract_mode {
         return Done::Kept(at.at_wait());
     }
     let used = at.reading.used;
-    take(stack, at, text::input::int_in(input, used))
+    let taken = text::input::int_in(input, used);
+    let skips = at.reading.skips;
+    take(stack, at.at_skips(skips.after(taken)), taken)
 }
 
 // One instruction, with the size of the block just left.
@@ -251,6 +310,7 @@ pub fn exec(
     at: Core,
 ) -> Done
     requires { ⌜ Stands (slices (now stack) (now kinds) (now values)) at ⌝ }
+    requires { ⌜ Countable at ⌝ }
     ensures { λ r. ⌜ Execs (exec (given terms (now (input .entry))) size op) (slices (now (stack .entry)) (now (kinds .entry)) (now (values .entry))) at (slices (now (stack .exit)) (now (kinds .exit)) (now (values .exit))) r ⌝ }
 {
     let d = at.depth;

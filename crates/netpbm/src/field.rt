@@ -1,8 +1,8 @@
 // The fields of a header: a gap of white space and comments, and a number.
+use base::digit::is_digit;
 ghost use mathlib.Core.Path.{_≡_};
 ghost use Prim.Native.Nat.{_+_, _-_, _*_, _≤_};
 ghost use lib.ListN.{length};
-ghost use Rattle.base.specs.Text.{digit};
 ghost use Rattle.netpbm.specs.File.{headerWhite};
 ghost use Rattle.netpbm.specs.Scan.{goesOn, commentAfter, cap, capped, GapEnd, NumberEnd, Finds};
 
@@ -35,15 +35,6 @@ pub fn is_header_white(b: u8) -> bool
         return true;
     }
     b == 0x0A
-}
-
-fn is_digit(b: u8) -> bool
-    ensures { λ r. ⌜ r ≡ digit b ⌝ }
-{
-    if b < 0x30 {
-        return false;
-    }
-    b <= 0x39
 }
 
 // Whether a byte belongs to a gap.

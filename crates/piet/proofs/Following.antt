@@ -2,12 +2,13 @@
 --     history-walks    the exits that a run takes are, read as moves, a walk of the picture
 --     follows-from     what is left of a run, from where it stands after a history, follows the picture
 --     follows          and so does the run from the start
+--     follows-few      no more number lines are skipped than moves are made
 -- Assumes nothing.
-use mathlib.Core.Path.{_≡_, refl, sym, subst, _∙_}
+use mathlib.Core.Path.{_≡_, refl, sym, ap, subst, _∙_}
 use mathlib.Core.Bool.{Bool, true, false, cond, true≢false}
 use mathlib.Core.List.{List, [], _∷_}
 use mathlib.Core.Logic.{_↔_, _⊎_, inl, inr}
-use Prim.Native.Nat.{ℕ, _+_, _<_}
+use Prim.Native.Nat.{ℕ, _+_, _<_, _≤_}
 use native.Mathlib.Omega.{arith}
 use native.Mathlib.Nat.{zero-div, zero-mod, zero-mul, zero-add}
 use borrow.Author.Tests.{eqb-true, eqb-false}
@@ -17,19 +18,24 @@ use Rattle.flow.specs.declared.PointerState.{PointerState}
 use Rattle.flow.specs.Pointer.{Valid, rotated, switched}
 use Rattle.flow.proofs.Order.{valid-rotated, valid-switched}
 use Rattle.text.specs.declared.number.Number.{Number}
+use Rattle.text.specs.declared.number.Reason.{Reason}
+use Rattle.text.specs.declared.number.Reason.the-variants.{Ended, Blank, NotNumber, OutOfRange}
 use Rattle.text.specs.declared.input.Taken.{Taken as Line}
 use Rattle.text.specs.declared.input.Taken.the-variants.{Push, Skip, BadInput as BadLine}
 use Rattle.text.specs.Input.{charOf, intOf}
 use Rattle.text.specs.Reading.{takeOf}
 use Rattle.machine.specs.declared.Stop.{Stop}
 use Rattle.machine.specs.declared.Stop.the-variants.{Completed, MaxSteps, NeedsInput}
-use Rattle.machine.specs.Machine.{Given, RunRoom, Store, Effect, does, bad-input, keeps, stops, opNumbered, exec, withPointers, byTop, turn, write, take, read}
+use Rattle.machine.specs.Machine.{Given, RunRoom, Store, Effect, does, bad-input, keeps, stops, opNumbered, exec, withPointers, byTop, turn, write, take, takeNumber, read}
+use Rattle.machine.specs.Skips.{place, countOf, total, noSkips, times}
+use Rattle.machine.specs.Skipped.{skipped}
 use Rattle.machine.specs.Place.{Machine, End, start}
 use Rattle.machine.specs.declared.Op.{Op}
 use Rattle.machine.specs.declared.Op.the-variants.{Nothing, Push as PushOp, Pop, Pair, Not, Ptr, Swi, Dup, Roll, CharIn, CharOut, IntIn, IntOut}
 use Rattle.machine.proofs.Fitting.{fit-kept, fit-stops, not-completed, not-limit, not-wait}
+use Rattle.machine.proofs.Skipping.{exec-counts, exec-total, times-append, skipped-same}
 use Rattle.piet.specs.Moves.{FirstOpen, NoneOpen}
-use Rattle.piet.specs.Follows.{Move, doing, Walk, starts, moves, Barred, Follows}
+use Rattle.piet.specs.Follows.{Move, doing, Walk, starts, moves, reasonsOn, Barred, Follows}
 use Rattle.piet.specs.Decoded.{moveBy, onto}
 use Rattle.colour.specs.Palette.{white}
 use Rattle.picture.specs.Picture.{Picture, colsOf, codels, codelColour, Sound}
@@ -61,16 +67,17 @@ by-top f g (z ∷ s) q v = g q z v
 taking : (t : Line) (m : Store) → Valid (m .pointers) → Holds (take t m)
 unfolding take
 taking (Push v n) m h = h
-taking (Skip n) m h = h
+taking (Skip n why) m h = h
 taking BadLine m h = tt
 
 either : (t : Bool) (d e : Effect) → Holds d → Holds e → Holds (cond t d e)
 either true d e h k = h
 either false d e h k = k
 
-reading : (g : Given) (f : List ℕ → Number) (m : Store) → Valid (m .pointers) → Holds (read g f m)
+reading : (g : Given) (f : List ℕ → Number) (takes : Line → Store → Effect) (m : Store) → ((t : Line) → Holds (takes t m))
+    → Valid (m .pointers) → Holds (read g f takes m)
 unfolding read
-reading g f m h = either (g .terms .«abstract_mode») _ _ h (taking (takeOf f (g .input) (m .reading .used)) m h)
+reading g f takes m k h = either (g .terms .«abstract_mode») _ _ h (k (takeOf f (g .input) (m .reading .used)))
 
 executing : (g : Given) (size : ℕ) (op : Op) (m : Store) → Valid (m .pointers) → Holds (exec g size op m)
 unfolding exec turn write
@@ -83,15 +90,48 @@ executing g size Ptr m h = by-top rotated valid-rotated (m .stack) (m .pointers)
 executing g size Swi m h = by-top switched valid-switched (m .stack) (m .pointers) h
 executing g size Dup m h = h
 executing g size Roll m h = h
-executing g size CharIn m h = reading g charOf m h
+executing g size CharIn m h = reading g charOf take m (λ t. taking t m h) h
 executing g size CharOut m h = h
-executing g size IntIn m h = reading g intOf m h
+executing g size IntIn m h = reading g intOf takeNumber m (λ t. taking t _ h) h
 executing g size IntOut m h = h
 
 -- a move that is kept keeps the pointers a state
 pub keeps-valid : (p : Picture) (map : List ℕ) (g : Given) (room : RunRoom) (r : ℕ) (u : PointerState) (i : ℕ) (m : Store) {m′ : Store}
     → doing p map g room r u i m ≡ keeps m′ → Valid u → Valid (m′ .pointers)
 keeps-valid p map g room r u i m h v = subst Holds (fit-kept room _ h) (executing g (tally r (codels p) map) (opNumbered i) (withPointers u m) v)
+
+-- ---- what a walk counts
+
+none-of : (why : Reason) → countOf why noSkips ≡ 0
+unfolding place
+none-of Ended = refl
+none-of Blank = refl
+none-of NotNumber = refl
+none-of OutOfRange = refl
+
+module _ (p : Picture) (map : List ℕ) (g : Given) (room : RunRoom) where
+  walk-skips : {history : List Move} {r : ℕ} {m : Store} (w : Walk p map g room history r m) (why : Reason)
+      → countOf why (m .reading .skips) ≡ times why (reasonsOn p map g room w)
+  unfolding reasonsOn times
+  walk-skips starts why = none-of why
+  walk-skips (moves {r = r} {i = i} {m = m} {u = u} w f F k) why =
+      let e = fit-kept room (exec g (tally r (codels p) map) (opNumbered i) (withPointers u m)) k in
+      let s = exec-counts g (tally r (codels p) map) (opNumbered i) (withPointers u m) e why in
+      omega (
+        arith,
+        s ∙ ap (λ (ws : List Reason). countOf why (m .reading .skips) + times why ws) (skipped-same g (opNumbered i) u m),
+        walk-skips w why,
+        times-append why (skipped g (opNumbered i) m) (reasonsOn p map g room w),
+      )
+
+  walk-few : {history : List Move} {r : ℕ} {m : Store} → Walk p map g room history r m → total (m .reading .skips) ≤ length history
+  walk-few starts = omega arith
+  walk-few (moves {r = r} {i = i} {m = m} {u = u} w f F k) =
+      let e = fit-kept room (exec g (tally r (codels p) map) (opNumbered i) (withPointers u m)) k in
+      omega (arith, walk-few w, exec-total g (tally r (codels p) map) (opNumbered i) (withPointers u m) e)
+
+  pub follows-few : {e : End} → Follows p map g room e → total (e .at .store .reading .skips) ≤ e .at .steps
+  follows-few F = omega (arith, walk-few (F .walk), F .counted)
 
 -- ---- a run over the table walks the picture
 
@@ -160,6 +200,7 @@ module _ {p : Picture} {map rows exits : List ℕ} {n : ℕ} (S : Sound p) (B : 
       history = history;
       walk = s .walk;
       counted = c;
+      skips = walk-skips p map g room (s .walk);
       within = omega arith;
       limited = (λ h. e, λ h. refl);
       awaited = (λ h. clash (cc), λ h. absurd (late (h .0)));
@@ -189,6 +230,7 @@ module _ {p : Picture} {map rows exits : List ℕ} {n : ℕ} (S : Sound p) (B : 
           history = history;
           walk = s .walk;
           counted = c;
+          skips = walk-skips p map g room (s .walk);
           within = omega arith;
           limited = (λ h. absurd (x h), λ h. absurd (short h));
           awaited = (λ h. (below, i .0 h), λ h. i .1 (h .1));

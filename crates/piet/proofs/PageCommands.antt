@@ -22,6 +22,7 @@ use Rattle.text.specs.Utf8.{scalar}
 use Rattle.text.specs.Range.{within}
 use Rattle.text.specs.declared.input.Taken.the-variants as Line
 use Rattle.text.specs.Reading.{takeOf}
+use Rattle.text.specs.declared.number.Reason.{Reason}
 use Rattle.text.specs.Input.{charOf, intOf}
 use Rattle.stack.specs.declared.Pairing.{Pairing}
 use Rattle.stack.specs.declared.Pairing.the-variants.{Add, Sub, Mul, Div, Mod, Gt}
@@ -29,7 +30,8 @@ use Rattle.stack.specs.Instr as Instr
 use Rattle.machine.specs.declared.Op.{Op}
 use Rattle.machine.specs.declared.Op.the-variants.{Nothing, Push, Pop, Pair, Not, Ptr, Swi, Dup, Roll, CharIn, CharOut, IntIn, IntOut}
 use Rattle.machine.specs.Output.{Emit, ofTop, char}
-use Rattle.machine.specs.Machine.{Given, RunRoom, Store, does, exec, fitting, turn, write, byTop, read, take, withStack, withPointers, withOuts, withUsed}
+use Rattle.machine.specs.Skips.{oneMore, counted}
+use Rattle.machine.specs.Machine.{Given, RunRoom, Store, does, exec, fitting, turn, write, byTop, read, take, withStack, withPointers, withOuts, withUsed, withSkips}
 use Rattle.base.proofs.Clash.{clash}
 use Rattle.piet.specs.Follows.{doing}
 use Rattle.piet.specs.Page.{takes, Changes, InRange, times, anticlockwise}
@@ -229,11 +231,11 @@ unfolding exec write ofTop Instr.pop char residue
 out-character g size u s m h = rw (mod-eq-of-lt {n = u} {m = 2 ^ 32} (omega (arith, scalar-small u h)), h)
 
 -- in: a number or a character is read and pushed, and the command is ignored where there is none: ours reads a line
--- (docs/DIFFERENCES.md), and pushes what it gives or leaves the stack
+-- (docs/DIFFERENCES.md), and pushes what it gives or leaves the stack; a skipped number line is counted
 module _ (g : Given) (reads : g .terms .«abstract_mode» ≡ false) (size : ℕ) (m : Store) where
   pub in-number : (v : ℤ) (n : ℕ) → takeOf intOf (g .input) (m .reading .used) ≡ Line.Push v n
       → exec g size IntIn m ≡ does (withUsed n (withStack (v ∷ m .stack) m))
-  unfolding exec read take
+  unfolding exec read take counted
   in-number v n h = rw (reads, h)
 
   pub in-character : (v : ℤ) (n : ℕ) → takeOf charOf (g .input) (m .reading .used) ≡ Line.Push v n
@@ -241,10 +243,12 @@ module _ (g : Given) (reads : g .terms .«abstract_mode» ≡ false) (size : ℕ
   unfolding exec read take
   in-character v n h = rw (reads, h)
 
-  pub no-number : (n : ℕ) → takeOf intOf (g .input) (m .reading .used) ≡ Line.Skip n → exec g size IntIn m ≡ does (withUsed n m)
-  unfolding exec read take
-  no-number n h = rw (reads, h)
+  pub no-number : (n : ℕ) (why : Reason) → takeOf intOf (g .input) (m .reading .used) ≡ Line.Skip n why
+      → exec g size IntIn m ≡ does (withUsed n (withSkips (oneMore why (m .reading .skips)) m))
+  unfolding exec read take counted
+  no-number n why h = rw (reads, h)
 
-  pub no-character : (n : ℕ) → takeOf charOf (g .input) (m .reading .used) ≡ Line.Skip n → exec g size CharIn m ≡ does (withUsed n m)
+  pub no-character : (n : ℕ) (why : Reason) → takeOf charOf (g .input) (m .reading .used) ≡ Line.Skip n why
+      → exec g size CharIn m ≡ does (withUsed n m)
   unfolding exec read take
-  no-character n h = rw (reads, h)
+  no-character n why h = rw (reads, h)

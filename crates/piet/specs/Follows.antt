@@ -2,14 +2,17 @@
 -- rows, exits or an exit number (rules 8.1 to 8.4). Assumes nothing.
 use mathlib.Core.Path.{_≡_}
 use mathlib.Core.Bool.{true, false}
-use mathlib.Core.List.{List, [], _∷_}
+use mathlib.Core.List.{List, [], _∷_, _++_}
 use mathlib.Core.Logic.{_↔_}
 use Prim.Native.Nat.{ℕ, _<_, _≤_}
 use lib.ListN.{length}
 use Rattle.flow.specs.declared.PointerState.{PointerState}
+use Rattle.text.specs.declared.number.Reason.{Reason}
 use Rattle.machine.specs.declared.Stop.{Stop}
 use Rattle.machine.specs.declared.Stop.the-variants.{Completed, MaxSteps, NeedsInput}
 use Rattle.machine.specs.Machine.{Given, RunRoom, Store, Out, keeps, stops, opNumbered, exec, withPointers, fitting}
+use Rattle.machine.specs.Skips.{countOf, times}
+use Rattle.machine.specs.Skipped.{skipped}
 use Rattle.machine.specs.Place.{start, End}
 use Rattle.piet.specs.Moves.{FirstOpen, NoneOpen}
 use Rattle.picture.specs.Picture.{Picture, codels}
@@ -39,6 +42,11 @@ module _ (p : Picture) (map : List ℕ) (g : Given) (room : RunRoom) where
         → doing r u i m ≡ keeps m′
         → Walk (record { from = r; to = target; pointers = u; instruction = i } ∷ history) target m′
 
+  -- the reasons for which the moves of a walk skipped number lines (rule 10.9), the latest first
+  unfoldable pub reasonsOn : {history : List Move} {r : ℕ} {m : Store} → Walk history r m → List Reason
+  reasonsOn starts = []
+  reasonsOn (moves {i = i} {m = m} walk unawaited first kept) = skipped g (opNumbered i) m ++ reasonsOn walk
+
   -- the first open move is not taken: its instruction can't be kept in the room that is lent, and the run stops for s
   pub record Barred (r : ℕ) (m : Store) (s : Stop) : Type 0 where
     pub target : ℕ
@@ -51,12 +59,14 @@ module _ (p : Picture) (map : List ℕ) (g : Given) (room : RunRoom) where
   limit = g .terms .limit
 
   -- A run of a picture under its limit ends in e: there is a history that leads to the region and the store reported, its
-  -- pointers included; its length is the steps reported; and it stops for the reason reported and for no other: the limit is
+  -- pointers included; its length is the steps reported; of each reason as many skipped lines are reported as its moves skipped
+  -- for it; and it stops for the reason reported and for no other: the limit is
   -- reached (rule 11.2); below it input is awaited (11.3); or no attempt is open (11.1); else the next move can't be kept.
   pub record Follows (e : End) : Type 0 where
     pub history : List Move
     pub walk : Walk history (e .at .region) (e .at .store)
     pub counted : e .at .steps ≡ length history
+    pub skips : (why : Reason) → countOf why (e .at .store .reading .skips) ≡ times why (reasonsOn walk)
     pub within : e .at .steps ≤ limit
     pub limited : (e .stop ≡ MaxSteps) ↔ (e .at .steps ≡ limit)
     pub awaited : (e .stop ≡ NeedsInput) ↔ ((e .at .steps < limit) × (e .at .store .reading .awaiting ≡ true))

@@ -16,7 +16,7 @@ use Rattle.machine.specs.Machine.{Given}
 use Rattle.machine.specs.Place.{End}
 use Rattle.machine.specs.Held.{Slices, roomOf}
 use Rattle.interpreter.specs.Outcome as running
-use Rattle.interpreter.specs.Outcome.{endedOf, resultOf, slicesOf}
+use Rattle.interpreter.specs.Outcome.{endedOf, resultCells, resultOf, slicesOf}
 use Rattle.piet.specs.Follows.{Follows}
 use Rattle.piet.proofs.Built.{picture-follows}
 use Rattle.netpbm.specs.declared.writing.Written.{Written}
@@ -54,10 +54,10 @@ table : {p : Picture} {s s′ : TableRoom} {a a′ : List ℕ} → Exported 2 (B
 table {a = a} x = let m = done-made x in rw (sym (counted (m .0) a (m .1) (m .2))) (m .3)
 
 -- `piet_build` returned 0, and `piet_run` was called with the first cell of its answer as n, on the rows and exits that it
--- wrote, with an answer of eight cells or more
+-- wrote, with an answer that has room for a run's
 pub c-picture-follows : {p : Picture} {s s′ : TableRoom} {a a′ : List ℕ} → Exported 2 (BuildCall p s) s a 0 s′ a′
-    → (g : Given) (l : Slices) {b b′ : List ℕ} {r : ℕ} {l′ : Slices} → 8 ≤ length b
-    → Exported 8 (RunCall (getD a′ 0 0) (s′ .rows) (s′ .exits) g l) l b r l′ b′
+    → (g : Given) (l : Slices) {b b′ : List ℕ} {r : ℕ} {l′ : Slices} → resultCells ≤ length b
+    → Exported resultCells (RunCall (getD a′ 0 0) (s′ .rows) (s′ .exits) g l) l b r l′ b′
     → (e : End) × (r ≡ 0) × (b′ ≡ lent (resultOf (endedOf e)) b) × Follows p (take (codels p) (s′ .map)) g (roomOf l) e
     × (e .at .region < getD a′ 0 0) × (l′ ≡ slicesOf l (e .at .store))
 unfolding running.numbered

@@ -10,7 +10,7 @@ use Rattle.machine.specs.Held.{Slices}
 use Rattle.interpreter.specs.Outcome as running
 use Rattle.interpreter.proofs.Only.{run-only}
 use Rattle.piet_c.specs.Exported.{Exported, short, made}
-use Rattle.piet_c.specs.Calls.{ClassifyCall, LabelCall, BuildCall, TableRoom, RunCall, ForeverCall, nine, PictureCall, ReadP6Call, WriteP6Call}
+use Rattle.piet_c.specs.Calls.{ClassifyCall, LabelCall, BuildCall, TableRoom, RunCall, ForeverCall, pictureCells, padded, PictureCall, ReadP6Call, WriteP6Call}
 use Rattle.picture.specs.Picture.{Picture}
 use Rattle.colour.proofs.Only.{classify-only, label-only}
 use Rattle.colour.specs.Classify as classifying
@@ -71,7 +71,7 @@ tells k rows exits n n′ s s′ (r, e, o) (r′, e′, o′) = (sym e ∙ o ∙
 pub pictures : (a : Asked) (l : Lends) → Settles (PictureCall a l)
 pictures a l n n′ s s′ (r, e, o) (r′, e′, o′) =
     let d = run-picture-only o o′ in
-    (sym e ∙ ap (λ (x : Pictured). nine (picturing.numbered x)) (d .0) ∙ e′, d .1)
+    (sym e ∙ ap (λ (x : Pictured). padded pictureCells (picturing.numbered x)) (d .0) ∙ e′, d .1)
 
 pub reads-p6 : (file pixels : List ℕ) → Settles (ReadP6Call file pixels)
 reads-p6 file pixels n n′ s s′ (r, e, o) (r′, e′, o′) =

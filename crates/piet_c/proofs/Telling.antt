@@ -1,36 +1,32 @@
 -- Writing the values of an answer. Assumes nothing.
-use mathlib.Core.Path.{_≡_, refl, ap, _∙_}
+use mathlib.Core.Path.{_≡_, refl, sym, ap, ap₂, _∙_}
 use mathlib.Core.List.{List, [], _∷_, _++_}
-use Prim.Native.Nat.{ℕ, _<_, _≤_}
+use Prim.Native.Nat.{ℕ, suc, _+_, _<_, _≤_}
 use native.Mathlib.Nat.{le-of-suc-le-suc}
 use native.Mathlib.Omega.{arith}
-use lib.ListN.{length, set}
-use Rattle.base.specs.Lent.{lent}
+use lib.ListN.{length, drop, set, replicate, length-set, length-replicate}
+use Rattle.base.specs.Lent.{over, lent, filled}
+use Rattle.base.proofs.Over.{over-none, over-one, over-over, over-zero, filled-zero}
 use Rattle.base.specs.Numbers.{Numbers, numbers, numberOf, valuesOf}
 use Rattle.piet_c.specs.Exported.{Exported, made}
 
-pub one-put : (l : List ℕ) (a : ℕ) → 1 ≤ length l → set l 0 a ≡ lent (a ∷ []) l
-unfolding lent
-one-put [] a h = absurd (omega arith)
-one-put (x ∷ l) a h = refl
+-- values that are written from an index on, cell after cell
+unfoldable pub cells : List ℕ → ℕ → List ℕ → List ℕ
+cells [] at l = l
+cells (v ∷ vs) at l = cells vs (suc at) (set l at v)
 
-pub two-put : (l : List ℕ) (a b : ℕ) → 2 ≤ length l → set (set l 0 a) 1 b ≡ lent (a ∷ b ∷ []) l
-unfolding lent
-two-put [] a b h = absurd (omega arith)
-two-put (x ∷ []) a b h = absurd (omega arith)
-two-put (x ∷ y ∷ l) a b h = refl
+cells-over : (vs : List ℕ) (at : ℕ) (l : List ℕ) → at + length vs ≤ length l → cells vs at l ≡ over l at vs
+unfolding cells
+cells-over [] at l h = over-none l at
+cells-over (v ∷ vs) at l h =
+    let n : suc at ≡ at + 1 = omega arith in
+    cells-over vs (suc at) (set l at v) (simp length-set (omega arith))
+    ∙ ap₂ (λ (k : ℕ) (d : List ℕ). over d k vs) n (over-one l at v (omega arith))
+    ∙ over-over l at (v ∷ []) vs (omega arith)
 
-pub eight-put : (l : List ℕ) (a b c d e f g h : ℕ) → 8 ≤ length l → set (set (set (set (set (set (set (set l 0 a) 1 b) 2 c) 3 d) 4 e) 5 f) 6 g) 7 h ≡ lent (a ∷ b ∷ c ∷ d ∷ e ∷ f ∷ g ∷ h ∷ []) l
-unfolding lent
-eight-put [] a b c d e f g h k = absurd (omega arith)
-eight-put (x0 ∷ []) a b c d e f g h k = absurd (omega arith)
-eight-put (x0 ∷ x1 ∷ []) a b c d e f g h k = absurd (omega arith)
-eight-put (x0 ∷ x1 ∷ x2 ∷ []) a b c d e f g h k = absurd (omega arith)
-eight-put (x0 ∷ x1 ∷ x2 ∷ x3 ∷ []) a b c d e f g h k = absurd (omega arith)
-eight-put (x0 ∷ x1 ∷ x2 ∷ x3 ∷ x4 ∷ []) a b c d e f g h k = absurd (omega arith)
-eight-put (x0 ∷ x1 ∷ x2 ∷ x3 ∷ x4 ∷ x5 ∷ []) a b c d e f g h k = absurd (omega arith)
-eight-put (x0 ∷ x1 ∷ x2 ∷ x3 ∷ x4 ∷ x5 ∷ x6 ∷ []) a b c d e f g h k = absurd (omega arith)
-eight-put (x0 ∷ x1 ∷ x2 ∷ x3 ∷ x4 ∷ x5 ∷ x6 ∷ x7 ∷ l) a b c d e f g h k = refl
+-- from the start on they are a result
+pub cells-put : (vs l : List ℕ) → length vs ≤ length l → cells vs 0 l ≡ lent vs l
+cells-put vs l h = cells-over vs 0 l (omega arith) ∙ over-zero l vs
 
 -- one cell more, after values that stand there
 pub next-put : (v l : List ℕ) (x : ℕ) → length v < length l → set (lent v l) (length v) x ≡ lent (v ++ (x ∷ [])) l
@@ -40,21 +36,17 @@ next-put [] (y ∷ l) x h = refl
 next-put (w ∷ v) [] x h = absurd (omega arith)
 next-put (w ∷ v) (y ∷ l) x h = ap (λ (t : List ℕ). w ∷ t) (next-put v l x (le-of-suc-le-suc h))
 
--- the values of an answer stand there
-stand : (l : List ℕ) {l₁ v w : List ℕ} {k n : ℕ} → numbers k v ≡ numbers n w → l₁ ≡ lent v l → l₁ ≡ lent w l
-stand l e p = p ∙ ap (λ (x : Numbers). lent (valuesOf x) l) e
-
--- a run's values, and the count of regions after them
-pub regions-put : (l : List ℕ) {l₁ v : List ℕ} (w : List ℕ) {k n : ℕ} (x : ℕ) → length w < length l → numbers k v ≡ numbers n w → l₁ ≡ lent v l
-    → set l₁ (length w) x ≡ lent (w ++ (x ∷ [])) l
-regions-put l w x h e p = rw (stand l e p) (next-put w l x h)
-
--- zeros, a place over them, and a zero after them
-pub place-put : (l : List ℕ) {l₁ l₂ v : List ℕ} {k n : ℕ} (row column : ℕ) → 9 ≤ length l
-    → numbers k v ≡ numbers n (0 ∷ 0 ∷ 0 ∷ 0 ∷ 0 ∷ 0 ∷ 0 ∷ 0 ∷ []) → l₁ ≡ lent v l → l₂ ≡ lent (row ∷ column ∷ []) l₁
-    → set l₂ 8 0 ≡ lent (row ∷ column ∷ 0 ∷ 0 ∷ 0 ∷ 0 ∷ 0 ∷ 0 ∷ 0 ∷ []) l
+-- zeros, and the same with a place over them
+pub zeros-put : (l : List ℕ) (n : ℕ) → filled 0 n 0 l ≡ lent (replicate n 0) l
 unfolding lent
-place-put l row column h e p q = rw (q, stand l e p) (next-put (row ∷ column ∷ 0 ∷ 0 ∷ 0 ∷ 0 ∷ 0 ∷ 0 ∷ []) l 0 h)
+zeros-put l n = filled-zero l n 0 ∙ ap (λ (k : ℕ). replicate n 0 ++ drop k l) (sym (length-replicate n 0))
+
+pub place-put : (l : List ℕ) {l₁ l₂ : List ℕ} (row column n : ℕ) → l₁ ≡ filled 0 (suc (suc n)) 0 l → l₂ ≡ lent (row ∷ column ∷ []) l₁
+    → l₂ ≡ lent (row ∷ column ∷ replicate n 0) l
+unfolding lent
+place-put l row column n p q =
+    q ∙ ap (λ (t : List ℕ). row ∷ column ∷ drop 2 t) (p ∙ filled-zero l (suc (suc n)) 0)
+    ∙ ap (λ (k : ℕ). row ∷ column ∷ (replicate n 0 ++ drop (suc (suc k)) l)) (sym (length-replicate n 0))
 
 -- a call whose numbers were told
 pub told : {S : Type 0} {Makes : Numbers → S → Type 0} {need : ℕ} {before after : S} {answer answer′ : List ℕ} (number : ℕ) (values : List ℕ) {n : Numbers}

@@ -1,7 +1,7 @@
 -- What each call makes: the layers' own outcomes, by their numbers (rules 8.5, 12.2, 15.4, 15.5). Assumes nothing.
 use mathlib.Core.Path.{_≡_}
 use mathlib.Core.List.{List, _++_}
-use Prim.Native.Nat.{ℕ, _-_}
+use Prim.Native.Nat.{ℕ, _+_, _-_}
 use lib.ListN.{length, replicate}
 use Rattle.base.specs.Numbers.{Numbers, numbers}
 use Rattle.picture.specs.Picture.{Picture}
@@ -54,13 +54,16 @@ RunCall n rows exits g l k l′ = (r : Ran) × (running.numbered r ≡ k) × run
 abbrev pub ForeverCall : ℕ → List ℕ → List ℕ → Numbers → Unit {0} → Type 0
 ForeverCall n rows exits k u = (r : Forever) × (always.numbered r ≡ k) × (always.numbered r ≡ always.answer n rows exits)
 
--- the values of an answer, and zeros after them up to nine cells
-abbrev pub nine : Numbers → Numbers
-nine (numbers n values) = numbers n (values ++ replicate (9 - length values) 0)
+-- the values of an answer, and zeros after them up to so many cells
+abbrev pub padded : ℕ → Numbers → Numbers
+padded cells (numbers n values) = numbers n (values ++ replicate (cells - length values) 0)
 
--- nine values: the run's eight and the count of regions (rule 8.5); or the place of an unknown pixel and zeros (rule 12.1)
+-- the run's values and the count of regions (rule 8.5); or the place of an unknown pixel and zeros (rule 12.1)
+abbrev pub pictureCells : ℕ
+pictureCells = running.resultCells + 1
+
 abbrev pub PictureCall : Asked → Lends → Numbers → Lends → Type 0
-PictureCall a l n l′ = (r : Pictured) × (nine (picturing.numbered r) ≡ n) × picturing.Outcome a l r l′
+PictureCall a l n l′ = (r : Pictured) × (padded pictureCells (picturing.numbered r) ≡ n) × picturing.Outcome a l r l′
 
 -- two values: the height and the width (rule 15.4)
 abbrev pub ReadP6Call : List ℕ → List ℕ → Numbers → List ℕ → Type 0

@@ -8,7 +8,7 @@ ghost use mathlib.Core.List.{_∷_, []};
 ghost use Prim.Native.Nat.{_≤_};
 ghost use lib.ListN.{length};
 ghost use Rattle.base.specs.Lent.{lent};
-ghost use Rattle.base.specs.Numbers.{numbers};
+ghost use Rattle.base.specs.Numbers.{numbers, numberOf, valuesOf};
 ghost use Rattle.picture.specs.Picture.{picture};
 ghost use Rattle.colour.specs.Label as labelling;
 ghost use Rattle.cfg.specs.Build as building;
@@ -18,6 +18,7 @@ ghost use Rattle.interpreter.specs.Outcome as running;
 ghost use Rattle.interpreter.specs.Forever as always;
 ghost use Rattle.piet_c.specs.Exported.{Exported};
 ghost use Rattle.piet_c.specs.Calls.{ClassifyCall, LabelCall, BuildCall, tableRoom, RunCall, ForeverCall};
+use base::fill::fill_u64;
 use cfg::Built;
 use colour::classify::in_numbers;
 use colour::label::Labelled;
@@ -38,18 +39,8 @@ struct Two {
     second: u64,
 }
 
-// A run's answer.
-struct Eight {
-    number: u32,
-    status: u64,
-    steps: u64,
-    region: u64,
-    dp: u64,
-    cc: u64,
-    depth: u64,
-    outputs: u64,
-    used: u64,
-}
+// The cells of a run's answer (rule 8.5).
+const RUN_ANSWER: usize = 12;
 
 fn put_one(answer: &mut [u64], value: u64)
     requires { ⌜ 1 ≤ length (now answer) ⌝ }
@@ -66,18 +57,46 @@ fn put_two(answer: &mut [u64], first: u64, second: u64)
     answer[1] = second;
 }
 
-fn put_eight(answer: &mut [u64], e: Eight)
-    requires { ⌜ 8 ≤ length (now answer) ⌝ }
-    ensures { λ _. ⌜ now (answer .exit) ≡ lent (e .status ∷ e .steps ∷ e .region ∷ e .dp ∷ e .cc ∷ e .depth ∷ e .outputs ∷ e .used ∷ []) (now (answer .entry)) ⌝ }
+// Writes the numbers of a run's result.
+fn put_ended(answer: &mut [u64], e: Ended)
+    requires { ⌜ running.resultCells ≤ length (now answer) ⌝ }
+    ensures { λ _. ⌜ now (answer .exit) ≡ lent (running.resultOf e) (now (answer .entry)) ⌝ }
 {
-    answer[0] = e.status;
-    answer[1] = e.steps;
-    answer[2] = e.region;
-    answer[3] = e.dp;
-    answer[4] = e.cc;
-    answer[5] = e.depth;
-    answer[6] = e.outputs;
-    answer[7] = e.used;
+    let stop = e.stop;
+    let at = e.at;
+    let core = at.core;
+    let pointers = core.pointers;
+    let reading = core.reading;
+    let skips = reading.skips;
+    answer[0] = machine::status(stop);
+    answer[1] = at.steps;
+    answer[2] = at.region as u64;
+    answer[3] = pointers.dp as u64;
+    answer[4] = pointers.cc as u64;
+    answer[5] = core.depth as u64;
+    answer[6] = core.outputs as u64;
+    answer[7] = reading.used as u64;
+    answer[8] = skips.ended;
+    answer[9] = skips.blank;
+    answer[10] = skips.not_number;
+    answer[11] = skips.out_of_range;
+}
+
+// Writes the values of a run's answer, and gives its number; a refusal has zeros.
+fn put_ran(answer: &mut [u64], r: Ran) -> u32
+    requires { ⌜ running.resultCells ≤ length (now answer) ⌝ }
+    ensures { λ n. ⌜ (n ≡ numberOf (running.numbered r)) × (now (answer .exit) ≡ lent (valuesOf (running.numbered r)) (now (answer .entry))) ⌝ }
+{
+    match r {
+        Ran::Refused(number) => {
+            fill_u64(answer, 0, RUN_ANSWER, 0);
+            number
+        }
+        Ran::Finished(e) => {
+            put_ended(answer, e);
+            0
+        }
+    }
 }
 
 // A number whose values are zeros.
@@ -192,52 +211,6 @@ pub extern "C" fn piet_build(
     told.number
 }
 
-fn of_ended(e: Ended) -> Eight
-    ensures { λ t. ⌜ numbers (t .number) (t .status ∷ t .steps ∷ t .region ∷ t .dp ∷ t .cc ∷ t .depth ∷ t .outputs ∷ t .used ∷ []) ≡ numbers 0 (running.resultOf e) ⌝ }
-{
-    let stop = e.stop;
-    let at = e.at;
-    let core = at.core;
-    let pointers = core.pointers;
-    Eight {
-        number: 0,
-        status: machine::status(stop),
-        steps: at.steps,
-        region: at.region as u64,
-        dp: pointers.dp as u64,
-        cc: pointers.cc as u64,
-        depth: core.depth as u64,
-        outputs: core.outputs as u64,
-        used: core.reading.used as u64,
-    }
-}
-
-// A refusal has zeros for values.
-fn of_refused(number: u32) -> Eight
-    ensures { λ t. ⌜ numbers (t .number) (t .status ∷ t .steps ∷ t .region ∷ t .dp ∷ t .cc ∷ t .depth ∷ t .outputs ∷ t .used ∷ []) ≡ running.refused number ⌝ }
-{
-    Eight {
-        number,
-        status: 0,
-        steps: 0,
-        region: 0,
-        dp: 0,
-        cc: 0,
-        depth: 0,
-        outputs: 0,
-        used: 0,
-    }
-}
-
-fn of_ran(r: Ran) -> Eight
-    ensures { λ t. ⌜ numbers (t .number) (t .status ∷ t .steps ∷ t .region ∷ t .dp ∷ t .cc ∷ t .depth ∷ t .outputs ∷ t .used ∷ []) ≡ running.numbered r ⌝ }
-{
-    match r {
-        Ran::Refused(number) => of_refused(number),
-        Ran::Finished(e) => of_ended(e),
-    }
-}
-
 fn of_forever(r: Forever) -> One
     ensures { λ t. ⌜ numbers (t .number) (t .value ∷ []) ≡ always.numbered r ⌝ }
 {
@@ -275,7 +248,8 @@ pub extern "C" fn piet_determine_runs_forever(
     told.number
 }
 
-// A run over a table; answer: status, steps, region, dp, cc, depth, outputs, used.
+// A run over a table; answer: status, steps, region, dp, cc, depth, outputs, used, and the number lines skipped: at the end of
+// the input, blank, not a number, out of range.
 #[no_mangle]
 pub extern "C" fn piet_run(
     n: usize,
@@ -289,17 +263,15 @@ pub extern "C" fn piet_run(
     values: &mut [i64],
     answer: &mut [u64],
 ) -> u32
-    ensures { λ r. ⌜ Exported 8 (RunCall n (now (rows .entry)) (now (exits .entry)) (given (record { limit = limit; «abstract_mode» = «abstract_mode» }) (now (input .entry))) (held.slices (now (stack .entry)) (now (kinds .entry)) (now (values .entry)))) (held.slices (now (stack .entry)) (now (kinds .entry)) (now (values .entry))) (now (answer .entry)) r (held.slices (now (stack .exit)) (now (kinds .exit)) (now (values .exit))) (now (answer .exit)) ⌝ }
+    ensures { λ r. ⌜ Exported running.resultCells (RunCall n (now (rows .entry)) (now (exits .entry)) (given (record { limit = limit; «abstract_mode» = «abstract_mode» }) (now (input .entry))) (held.slices (now (stack .entry)) (now (kinds .entry)) (now (values .entry)))) (held.slices (now (stack .entry)) (now (kinds .entry)) (now (values .entry))) (now (answer .entry)) r (held.slices (now (stack .exit)) (now (kinds .exit)) (now (values .exit))) (now (answer .exit)) ⌝ }
 {
-    if answer.len() < 8 {
+    if answer.len() < RUN_ANSWER {
         return 4;
     }
     let terms = Terms {
         limit,
         abstract_mode,
     };
-    let told = of_ran(interpreter::run(n, rows, exits, terms, input, stack, kinds, values));
-    let number = told.number;
-    put_eight(answer, told);
-    number
+    let ran = interpreter::run(n, rows, exits, terms, input, stack, kinds, values);
+    put_ran(answer, ran)
 }

@@ -7,25 +7,27 @@ ghost use Rattle.base.specs.Numbers.{numberOf, valuesOf};
 ghost use Rattle.machine.specs.Machine.{given};
 ghost use Rattle.piet.specs.RunPicture.{asked, lends, numbered};
 ghost use Rattle.piet_c.specs.Exported.{Exported};
-ghost use Rattle.piet_c.specs.Calls.{nine, PictureCall};
-use crate::of_ended;
-use crate::of_refused;
-use crate::put_eight;
+ghost use Rattle.piet_c.specs.Calls.{pictureCells, padded, PictureCall};
+use crate::put_ended;
 use crate::put_two;
+use base::fill::fill_u64;
 use machine::Terms;
 use piet::run_picture::Pictured;
 use piet::run_picture::run_picture;
 
-// Writes the values of a picture's run, and gives the number: the run's eight and the count of regions, or the place of
-// an unknown pixel and zeros.
+// The cells of a picture's answer: a run's, and the count of regions.
+const PICTURE_ANSWER: usize = 13;
+
+// Writes the values of a picture's run, and gives the number: the run's and the count of regions, or the place of an
+// unknown pixel and zeros.
 fn put_pictured(answer: &mut [u64], r: Pictured) -> u32
-    requires { ⌜ 9 ≤ length (now answer) ⌝ }
-    ensures { λ n. ⌜ (n ≡ numberOf (nine (numbered r))) × (now (answer .exit) ≡ lent (valuesOf (nine (numbered r))) (now (answer .entry))) ⌝ }
+    requires { ⌜ pictureCells ≤ length (now answer) ⌝ }
+    ensures { λ n. ⌜ (n ≡ numberOf (padded pictureCells (numbered r))) × (now (answer .exit) ≡ lent (valuesOf (padded pictureCells (numbered r))) (now (answer .entry))) ⌝ }
 {
     match r {
         Pictured::Finished { ended, regions } => {
-            put_eight(answer, of_ended(ended));
-            answer[8] = regions as u64;
+            put_ended(answer, ended);
+            answer[12] = regions as u64;
             0
         }
         Pictured::Refused {
@@ -33,16 +35,15 @@ fn put_pictured(answer: &mut [u64], r: Pictured) -> u32
             row,
             column,
         } => {
-            put_eight(answer, of_refused(number));
+            fill_u64(answer, 0, PICTURE_ANSWER, 0);
             put_two(answer, row as u64, column as u64);
-            answer[8] = 0;
             number
         }
     }
 }
 
-// A run of a picture; answer: status, steps, region, dp, cc, depth, outputs, used, the count of regions; or row, column
-// of the first pixel that is not in the table.
+// A run of a picture; answer: the twelve values of `piet_run`, the count of regions; or row, column of the first pixel that is
+// not in the table.
 #[no_mangle]
 pub extern "C" fn piet_run_picture(
     pixels: &[u8],
@@ -63,9 +64,9 @@ pub extern "C" fn piet_run_picture(
     values: &mut [i64],
     answer: &mut [u64],
 ) -> u32
-    ensures { λ r. ⌜ Exported 9 (PictureCall (asked (now (pixels .entry)) height width setting codel (given (record { limit = limit; «abstract_mode» = «abstract_mode» }) (now (input .entry)))) (lends (now (colours .entry)) (now (map .entry)) (now (rows .entry)) (now (exits .entry)) (now (work .entry)) (now (stack .entry)) (now (kinds .entry)) (now (values .entry)))) (lends (now (colours .entry)) (now (map .entry)) (now (rows .entry)) (now (exits .entry)) (now (work .entry)) (now (stack .entry)) (now (kinds .entry)) (now (values .entry))) (now (answer .entry)) r (lends (now (colours .exit)) (now (map .exit)) (now (rows .exit)) (now (exits .exit)) (now (work .exit)) (now (stack .exit)) (now (kinds .exit)) (now (values .exit))) (now (answer .exit)) ⌝ }
+    ensures { λ r. ⌜ Exported pictureCells (PictureCall (asked (now (pixels .entry)) height width setting codel (given (record { limit = limit; «abstract_mode» = «abstract_mode» }) (now (input .entry)))) (lends (now (colours .entry)) (now (map .entry)) (now (rows .entry)) (now (exits .entry)) (now (work .entry)) (now (stack .entry)) (now (kinds .entry)) (now (values .entry)))) (lends (now (colours .entry)) (now (map .entry)) (now (rows .entry)) (now (exits .entry)) (now (work .entry)) (now (stack .entry)) (now (kinds .entry)) (now (values .entry))) (now (answer .entry)) r (lends (now (colours .exit)) (now (map .exit)) (now (rows .exit)) (now (exits .exit)) (now (work .exit)) (now (stack .exit)) (now (kinds .exit)) (now (values .exit))) (now (answer .exit)) ⌝ }
 {
-    if answer.len() < 9 {
+    if answer.len() < PICTURE_ANSWER {
         return 4;
     }
     let terms = Terms {

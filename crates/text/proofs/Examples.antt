@@ -8,11 +8,12 @@ use Rattle.text.specs.Line.{lineLength}
 use Rattle.text.specs.Range.{within}
 use Rattle.text.specs.Utf8.{scalar, scalars, encode, encodes}
 use Rattle.text.specs.White.{whiteSpace, trimStart}
-use Rattle.text.specs.Number.{magnitudeOf, sign, parsed}
+use Rattle.text.specs.Number.{inRange, ranged, signed, parsed}
 use Rattle.text.specs.Input.{charOf, intOf, pushOrSkip}
 use Rattle.text.specs.Reading.{back, rest, chars, same, valid, takeOf}
 use Rattle.text.specs.declared.input.Taken.the-variants.{Push, Skip, BadInput}
-use Rattle.text.specs.declared.number.Number.the-variants.{Value, NotANumber}
+use Rattle.text.specs.declared.number.Number.the-variants.{Value, Skipped}
+use Rattle.text.specs.declared.number.Reason.the-variants.{Ended, Blank, NotNumber, OutOfRange}
 
 -- é, €, 𝄞
 letters : encodes (0xE9 ∷ 0x20AC ∷ 0x1D11E ∷ []) ≡ 0xC3 ∷ 0xA9 ∷ 0xE2 ∷ 0x82 ∷ 0xAC ∷ 0xF0 ∷ 0x9D ∷ 0x84 ∷ 0x9E ∷ []
@@ -48,42 +49,47 @@ none = refl
 
 -- U+3000, `-12`, a carriage return, a newline
 int : intOf (0x3000 ∷ 0x2D ∷ 0x31 ∷ 0x32 ∷ 13 ∷ 10 ∷ []) ≡ Value (negsuc 11)
-unfolding encode encodes whiteSpace within trimStart digit allDigits numeral valueAfter magnitudeOf sign parsed
+unfolding encode encodes whiteSpace within trimStart digit allDigits numeral valueAfter inRange ranged signed parsed intOf
 int = refl
 
 -- signs and zeros
 plus-five : parsed (ascii "+5") ≡ Value (pos 5)
-unfolding digit allDigits numeral valueAfter magnitudeOf sign parsed
+unfolding digit allDigits numeral valueAfter inRange ranged signed parsed
 plus-five = refl
 
 minus-zero : parsed (ascii "-0") ≡ Value (pos 0)
-unfolding digit allDigits numeral valueAfter magnitudeOf sign parsed
+unfolding digit allDigits numeral valueAfter inRange ranged signed parsed
 minus-zero = refl
 
 zeros : parsed (ascii "007") ≡ Value (pos 7)
-unfolding digit allDigits numeral valueAfter magnitudeOf sign parsed
+unfolding digit allDigits numeral valueAfter inRange ranged signed parsed
 zeros = refl
 
-alone : parsed (ascii "+") ≡ NotANumber
-unfolding digit allDigits numeral valueAfter magnitudeOf sign parsed
-alone = refl
+-- no form of a number: a sign alone, two signs, a space after a sign, two numbers, a letter after digits that are too many
+no-form : (parsed (ascii "+") ≡ Skipped NotNumber)
+    × (parsed (ascii "--1") ≡ Skipped NotNumber)
+    × (parsed (ascii "- 5") ≡ Skipped NotNumber)
+    × (parsed (ascii "1 2") ≡ Skipped NotNumber)
+    × (parsed (ascii "9223372036854775808x") ≡ Skipped NotNumber)
+unfolding digit allDigits numeral valueAfter inRange ranged signed parsed
+no-form = (refl, refl, refl, refl, refl)
 
-twice : parsed (ascii "--1") ≡ NotANumber
-unfolding digit allDigits numeral valueAfter magnitudeOf sign parsed
-twice = refl
+-- the ends of i64, leading zeros and all, and one past each
+ends : (parsed (ascii "9223372036854775807") ≡ Value (pos 9223372036854775807))
+    × (parsed (ascii "-0009223372036854775808") ≡ Value (negsuc 9223372036854775807))
+    × (parsed (ascii "9223372036854775808") ≡ Skipped OutOfRange)
+    × (parsed (ascii "-9223372036854775809") ≡ Skipped OutOfRange)
+unfolding digit allDigits numeral valueAfter inRange ranged signed parsed
+ends = (refl, refl, refl, refl)
 
--- the ends of i64: -2^63, and 2^63
-least : parsed (ascii "-9223372036854775808") ≡ Value (negsuc 9223372036854775807)
-unfolding digit allDigits numeral valueAfter magnitudeOf sign parsed
-least = refl
-
-past : parsed (ascii "9223372036854775808") ≡ NotANumber
-unfolding digit allDigits numeral valueAfter magnitudeOf sign parsed
-past = refl
+-- white space alone, U+3000 too, is a blank line; no line at all is the end of the input
+nothing : (intOf (0x20 ∷ 0x3000 ∷ 13 ∷ 10 ∷ []) ≡ Skipped Blank) × (intOf [] ≡ Skipped Ended)
+unfolding encodes whiteSpace within trimStart parsed intOf
+nothing = (refl, refl)
 
 -- ` -12`, newline, `7`: the line is taken and -12 pushed. A line with a lone continuation byte is refused
 taken : takeOf intOf (0x20 ∷ 0x2D ∷ 0x31 ∷ 0x32 ∷ 10 ∷ 0x37 ∷ []) 0 ≡ Push (negsuc 11) 5
-unfolding scalar scalars encode encodes whiteSpace within trimStart digit allDigits numeral valueAfter magnitudeOf sign parsed lineLength back rest chars same valid pushOrSkip takeOf
+unfolding scalar scalars encode encodes whiteSpace within trimStart digit allDigits numeral valueAfter inRange ranged signed parsed intOf lineLength back rest chars same valid pushOrSkip takeOf
 taken = refl
 
 refused : takeOf intOf (0x31 ∷ 0x80 ∷ 10 ∷ []) 0 ≡ BadInput
@@ -95,6 +101,6 @@ empty : takeOf charOf (10 ∷ []) 0 ≡ Push (pos 10) 1
 unfolding scalar scalars encode encodes within lineLength back rest chars same valid pushOrSkip takeOf charOf
 empty = refl
 
-at-end : takeOf charOf (10 ∷ []) 1 ≡ Skip 1
+at-end : takeOf charOf (10 ∷ []) 1 ≡ Skip 1 Ended
 unfolding scalars encodes lineLength chars same valid pushOrSkip takeOf charOf
 at-end = refl

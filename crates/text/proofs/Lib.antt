@@ -12,4 +12,6 @@ pub mod InputLaws
 pub mod ReadingLaws
 pub mod Encoding
 pub mod Only
+pub mod Meaning
+pub mod SameAsBefore
 pub mod Examples

@@ -1,5 +1,6 @@
 -- The length of the first line, byte by byte, and how a line lies in the input.
 --     line-none, line-here, line-more      by the byte at a place
+--     line-some                            a line that begins within the input has a byte
 --     line-within, line-part               a line that begins within the input ends within it, and is a part of it
 -- Assumes nothing.
 use Prim.Native.Nat.{ℕ, suc, _+_, _-_, _<_, _≤_}
@@ -9,7 +10,7 @@ use mathlib.Core.List.{List, [], _∷_}
 use native.Mathlib.Omega.{arith}
 use borrow.Author.Tests.{eq-eqb, ne-eqb}
 use lib.Dec.{eqb}
-use lib.ListN.{length, getD, take, drop, length-drop, drop-of-length-le}
+use lib.ListN.{length, getD, take, drop, length-take, length-drop, drop-of-length-le}
 use Rattle.text.specs.Line.{lineLength, lineAt, lineEnd}
 use Rattle.text.proofs.Parts.{from1}
 
@@ -37,6 +38,21 @@ line-le (b ∷ bs) = pick-le (eqb b 10) (lineLength bs) (length bs) (line-le bs)
 
 pub line-within : (s : List ℕ) (at : ℕ) → at ≤ length s → lineEnd s at ≤ length s
 line-within s at h = omega (arith, line-le (drop at s), length-drop at s)
+
+pick-some : (t : Bool) (m : ℕ) → 0 < cond t 1 (1 + m)
+pick-some true m = omega arith
+pick-some false m = omega arith
+
+line-has : (l : List ℕ) → 0 < length l → 0 < lineLength l
+unfolding lineLength
+line-has [] h = absurd (omega arith)
+line-has (b ∷ bs) h = pick-some (eqb b 10) (lineLength bs)
+
+pub line-some : (s : List ℕ) (at e : ℕ) → e ≡ lineEnd s at → at < length s → 0 < length (take (e - at) (drop at s))
+line-some s at e is h =
+    let d = length-drop at s in
+    let n = line-has (drop at s) (omega arith) in
+    rw length-take (omega (arith, line-le (drop at s)))
 
 pub line-part : (s : List ℕ) (at e : ℕ) → e ≡ lineEnd s at → take (e - at) (drop at s) ≡ lineAt s at
 line-part s at e is =

@@ -1,46 +1,61 @@
--- Numerals, digit by digit.
---     digits-on, digits-low, digits-high, digits-end    whether digits stand from a place on, by the byte there
---     value-on, value-end, value-le                  their value after a number
---     no-numeral, too-large, is-magnitude               what `magnitudeOf` then is
---     magnitude-le                                      a magnitude is no more than the limit
---     minus-one, below-zero                             -1 - m, and -n, as the machine has them
---     number-none .. number-bare                        a number by its first byte
---     read-back                                         a number that is printed in decimal is read as itself
+-- Numerals, digit by digit, and the numbers that they make.
+--     no-bytes, no-digits                    what is no numeral
+--     digits-not, digits-on, digits-both, digits-end    whether digits stand from a place on, by the byte there
+--     value-on, value-end, value-le          their value after a number
+--     too-large, is-magnitude                what `magnitudeOf` then is
+--     magnitude-is, magnitude-over           and what it says of the value
+--     no-form, in-form                       what digits make with a sign, by their form
+--     in-range, out-of-range                 and by the number that they say;
+--     pos-in, pos-out, neg-in, neg-out       which is in range or not
+--     minus-one, below-zero                  -1 - m, and -n, as the machine has them
+--     number-none .. number-bare             a number by its first byte
+--     read-back                              a number that is printed in decimal is read as itself
 -- Assumes nothing.
 use Prim.Native.Nat.{ℕ, zero, suc, _+_, _*_, _-_, _^_, _<_, _≤_}
 use mathlib.Core.Path.{_≡_, refl, sym, ap, _∙_}
-use mathlib.Core.Bool.{Bool, true, false, _&&_, cond, and-false}
+use mathlib.Core.Bool.{Bool, true, false, cond}
 use mathlib.Core.List.{List, [], _∷_}
 use native.Mathlib.Nat.{le-trans, le-refl, zero-add}
 use native.Mathlib.Omega.{arith}
-use borrow.Author.Tests.{le-leb, lt-leb, leb-true, eq-eqb, ne-eqb}
+use borrow.Author.Tests.{le-leb, lt-leb, leb-true, leb-false, lt-ltb, le-ltb, eq-eqb, ne-eqb}
 use lib.Dec.{leb}
 use lib.IntN.{ℤ, pos, negsuc, negℤ, _-ℤ_}
 use lib.ListN.{length, getD, drop, drop-of-length-le}
 use mir.Syntax.{w64}
 use mir.Val.{toZ}
 use mir.ValLaws.{toZ-pos}
-use Rattle.base.specs.Text.{decimal, allDigits, numeral, valueAfter}
+use Rattle.base.specs.Text.{decimal, digit, allDigits, numeral, valueAfter}
 use Rattle.base.proofs.Tests.{and-both, by-size}
-use Rattle.base.proofs.Digits.{digit-in, digit-low, digit-high}
+use Rattle.base.proofs.Clash.{clash}
 use Rattle.base.proofs.Decimal.{decimal-small, decimal-value, decimal-some, decimal-lead, decimal-numeral}
-use Rattle.text.specs.Number.{magnitudeOf, sign, plus, minus, parsed}
-use Rattle.text.specs.declared.number.Number.the-variants.{Value, NotANumber}
-use Rattle.text.specs.declared.number.Magnitude.the-variants.{Is, Not}
+use Rattle.text.specs.Number.{inRange, ranged, signed, plus, minus, parsed, magnitudeOf}
+use Rattle.text.specs.declared.number.Number.the-variants.{Value, Skipped}
+use Rattle.text.specs.declared.number.Reason.the-variants.{Blank, NotNumber, OutOfRange}
+use Rattle.text.specs.declared.number.Magnitude.the-variants.{Is, Large}
 use Rattle.text.proofs.Parts.{from1}
 
+pub no-bytes : (s : List ℕ) → length s ≡ 0 → numeral s ≡ false
+unfolding numeral
+no-bytes [] e = refl
+no-bytes (b ∷ bs) e = absurd (omega arith)
+
+pub no-digits : (s : List ℕ) → allDigits s ≡ false → numeral s ≡ false
+unfolding numeral
+no-digits [] e = refl
+no-digits (b ∷ bs) e = e
+
 module _ (s : List ℕ) (i : ℕ) where
-  pub digits-on : i < length s → 0x30 ≤ getD s i 0 → getD s i 0 ≤ 0x39 → allDigits (drop i s) ≡ allDigits (drop (i + 1) s)
+  pub digits-not : i < length s → digit (getD s i 0) ≡ false → allDigits (drop i s) ≡ false
   unfolding allDigits
-  digits-on h l u = rw (from1 s i h, digit-in (getD s i 0) l u)
+  digits-not h e = rw (from1 s i h, e)
 
-  pub digits-low : i < length s → getD s i 0 < 0x30 → allDigits (drop i s) ≡ false
+  pub digits-on : i < length s → digit (getD s i 0) ≡ true → allDigits (drop i s) ≡ allDigits (drop (i + 1) s)
   unfolding allDigits
-  digits-low h l = rw (from1 s i h, digit-low (getD s i 0) l)
+  digits-on h e = rw (from1 s i h, e)
 
-  pub digits-high : i < length s → 0x39 < getD s i 0 → allDigits (drop i s) ≡ false
+  pub digits-both : i < length s → allDigits (drop i s) ≡ true → (digit (getD s i 0) ≡ true) × (allDigits (drop (i + 1) s) ≡ true)
   unfolding allDigits
-  digits-high h l = rw (from1 s i h, digit-high (getD s i 0) l)
+  digits-both h e = and-both (digit (getD s i 0)) (allDigits (drop (i + 1) s)) (rw (from1 s i h) at e)
 
   pub digits-end : length s ≤ i → allDigits (drop i s) ≡ true
   unfolding allDigits
@@ -59,35 +74,70 @@ unfolding valueAfter
 value-le n [] = le-refl n
 value-le n (b ∷ bs) = le-trans {m = n * 10 + (b - 0x30)} (omega arith) (value-le (n * 10 + (b - 0x30)) bs)
 
-module _ (limit : ℕ) where
-  pub no-numeral : (s : List ℕ) → allDigits s ≡ false → magnitudeOf limit s ≡ Not
-  unfolding magnitudeOf numeral
-  no-numeral [] e = refl
-  no-numeral (b ∷ bs) e = rw e
-
-  pub too-large : (s : List ℕ) → limit < valueAfter 0 s → magnitudeOf limit s ≡ Not
+module _ (limit : ℕ) (s : List ℕ) where
+  pub too-large : limit < valueAfter 0 s → magnitudeOf limit s ≡ Large
   unfolding magnitudeOf
-  too-large s h = rw (lt-leb (valueAfter 0 s) limit h, and-false)
+  too-large h = rw (lt-leb (valueAfter 0 s) limit h)
 
-  pub is-magnitude : (s : List ℕ) → numeral s ≡ true → valueAfter 0 s ≤ limit → magnitudeOf limit s ≡ Is (valueAfter 0 s)
+  pub is-magnitude : valueAfter 0 s ≤ limit → magnitudeOf limit s ≡ Is (valueAfter 0 s)
   unfolding magnitudeOf
-  is-magnitude s e h = rw (e, le-leb (valueAfter 0 s) limit h)
+  is-magnitude h = rw (le-leb (valueAfter 0 s) limit h)
 
-  pub empty-magnitude : (s : List ℕ) → length s ≡ 0 → magnitudeOf limit s ≡ Not
-  unfolding magnitudeOf numeral
-  empty-magnitude [] e = refl
-  empty-magnitude (b ∷ bs) e = absurd (omega arith)
+  -- by the test: the value, or that it is over the limit
+  pub magnitude-is : (n : ℕ) → Is n ≡ magnitudeOf limit s → (n ≡ valueAfter 0 s) × (n ≤ limit)
+  unfolding magnitudeOf
+  magnitude-is n = go (leb (valueAfter 0 s) limit) refl
+    where
+      go : (t : Bool) → leb (valueAfter 0 s) limit ≡ t → Is n ≡ cond t (Is (valueAfter 0 s)) Large → (n ≡ valueAfter 0 s) × (n ≤ limit)
+      go true e q =
+          let z : n ≡ valueAfter 0 s = cc in
+          (z, rw z (leb-true (valueAfter 0 s) limit e))
+      go false e q = clash cc
 
-pick-is : (n v : ℕ) (t : Bool) → Is n ≡ cond t (Is v) Not → (t ≡ true) × (Is n ≡ Is v)
-pick-is n v true q = (refl, q)
-pick-is n v false q = let z : _≡_ {A = ℕ} 0 1 = cc in absurd (omega arith)
+  pub magnitude-over : Large ≡ magnitudeOf limit s → limit < valueAfter 0 s
+  unfolding magnitudeOf
+  magnitude-over = go (leb (valueAfter 0 s) limit) refl
+    where
+      go : (t : Bool) → leb (valueAfter 0 s) limit ≡ t → Large ≡ cond t (Is (valueAfter 0 s)) Large → limit < valueAfter 0 s
+      go true e q = clash cc
+      go false e q = leb-false (valueAfter 0 s) limit e
 
-pub magnitude-le : (limit n : ℕ) (s : List ℕ) → Is n ≡ magnitudeOf limit s → n ≤ limit
-unfolding magnitudeOf
-magnitude-le limit n s q =
-    let p = pick-is n (valueAfter 0 s) (numeral s && leb (valueAfter 0 s) limit) q in
-    let e : n ≡ valueAfter 0 s = cc (p .1) in
-    rw e (leb-true (valueAfter 0 s) limit (and-both (numeral s) (leb (valueAfter 0 s) limit) (p .0) .1))
+-- what a sign makes of the bytes after it
+module _ (sign : ℕ → ℤ) (s : List ℕ) where
+  pub no-form : numeral s ≡ false → signed sign s ≡ Skipped NotNumber
+  unfolding signed
+  no-form e = rw e
+
+  pub in-form : numeral s ≡ true → signed sign s ≡ ranged (sign (valueAfter 0 s))
+  unfolding signed
+  in-form e = rw e
+
+pub in-range : (z : ℤ) → inRange z ≡ true → ranged z ≡ Value z
+unfolding ranged
+in-range z e = rw e
+
+pub out-of-range : (z : ℤ) → inRange z ≡ false → ranged z ≡ Skipped OutOfRange
+unfolding ranged
+out-of-range z e = rw e
+
+-- both ends of the range
+pub pos-in : (n : ℕ) → n ≤ 2 ^ 63 - 1 → inRange (pos n) ≡ true
+unfolding inRange
+pos-in n h = lt-ltb n (2 ^ 63) (omega arith)
+
+pub pos-out : (n : ℕ) → 2 ^ 63 - 1 < n → inRange (pos n) ≡ false
+unfolding inRange
+pos-out n h = le-ltb n (2 ^ 63) (omega arith)
+
+pub neg-in : (n : ℕ) → n ≤ 2 ^ 63 → inRange (negℤ (pos n)) ≡ true
+unfolding inRange
+neg-in zero h = refl
+neg-in (suc n) h = lt-ltb n (2 ^ 63) (omega arith)
+
+pub neg-out : (n : ℕ) → 2 ^ 63 < n → inRange (negℤ (pos n)) ≡ false
+unfolding inRange
+neg-out zero h = absurd (omega arith)
+neg-out (suc n) h = le-ltb n (2 ^ 63) (omega arith)
 
 minus-pos : (m : ℕ) → negsuc 0 -ℤ pos m ≡ negsuc m
 minus-pos zero = refl
@@ -101,7 +151,7 @@ below-zero zero h = absurd (h refl)
 below-zero (suc k) h = ap negsuc (omega arith)
 
 -- a number by its first byte
-pub number-none : (s : List ℕ) → length s ≡ 0 → NotANumber ≡ parsed s
+pub number-none : (s : List ℕ) → length s ≡ 0 → Skipped Blank ≡ parsed s
 unfolding parsed
 number-none [] e = refl
 number-none (b ∷ bs) e = absurd (omega arith)
@@ -126,11 +176,8 @@ decimal-first n =
     by-size n 1 (λ l. rw (decimal-small n (omega arith)) (omega arith)) (λ l. omega (arith, decimal-lead n l))
 
 pub read-back : (n : ℕ) → n < 2 ^ 63 → parsed (decimal n) ≡ Value (pos n)
-unfolding sign
 read-back n h =
     let s = decimal n in
     let f = decimal-first n in
-    let v = decimal-value n in
     let bare = number-bare s (decimal-some n) (λ e. omega arith) (λ e. omega arith) in
-    let is = is-magnitude (2 ^ 63 - 1) s (decimal-numeral n) (omega arith) in
-    sym bare ∙ ap (sign pos) (is ∙ ap Is v)
+    sym bare ∙ in-form pos s (decimal-numeral n) ∙ ap (λ (v : ℕ). ranged (pos v)) (decimal-value n) ∙ in-range (pos n) (pos-in n (omega arith))

@@ -8,4 +8,5 @@ pub mod Ends
 pub mod Line
 pub mod Number
 pub mod Input
+pub mod Means
 pub mod Reading

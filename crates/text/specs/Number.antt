@@ -1,32 +1,42 @@
--- A number as IntIn reads it (rule 10.3). Assumes nothing.
-use Prim.Native.Nat.{ℕ, _-_, _^_}
-use mathlib.Core.Bool.{_&&_, cond}
+-- A number as IntIn reads it, and what is none: its form comes first, its value second (rules 10.3, 10.8). Assumes nothing.
+use Prim.Native.Nat.{ℕ, _^_}
+use mathlib.Core.Bool.{Bool, cond}
 use mathlib.Core.List.{List, [], _∷_}
-use lib.Dec.{leb, eqb}
-use lib.IntN.{ℤ, pos, negℤ}
+use lib.Dec.{leb, ltb, eqb}
+use lib.IntN.{ℤ, pos, negsuc, negℤ}
 use Rattle.base.specs.Text.{numeral, valueAfter}
 use Rattle.text.specs.declared.number.Number.{Number}
-use Rattle.text.specs.declared.number.Number.the-variants.{Value, NotANumber}
+use Rattle.text.specs.declared.number.Number.the-variants.{Value, Skipped}
+use Rattle.text.specs.declared.number.Reason.the-variants.{Blank, NotNumber, OutOfRange}
 use Rattle.text.specs.declared.number.Magnitude.{Magnitude}
-use Rattle.text.specs.declared.number.Magnitude.the-variants.{Is, Not}
+use Rattle.text.specs.declared.number.Magnitude.the-variants.{Is, Large}
 
--- the value of a numeral, where it is no more than the limit
-unfoldable pub magnitudeOf : ℕ → List ℕ → Magnitude
-magnitudeOf limit bs = cond (numeral bs && leb (valueAfter 0 bs) limit) (Is (valueAfter 0 bs)) Not
+-- in range: from -2^63 to 2^63 - 1 (rule 9.10); `negsuc n` is -(n + 1)
+unfoldable pub inRange : ℤ → Bool
+inRange (pos n) = ltb n (2 ^ 63)
+inRange (negsuc n) = ltb n (2 ^ 63)
 
--- the number that a sign makes of a value
-unfoldable pub sign : (ℕ → ℤ) → Magnitude → Number
-sign f (Is n) = Value (f n)
-sign f Not = NotANumber
+unfoldable pub ranged : ℤ → Number
+ranged z = cond (inRange z) (Value z) (Skipped OutOfRange)
 
--- in range: from -2^63 to 2^63 - 1
+-- the number that a sign makes of the digits after it
+unfoldable pub signed : (ℕ → ℤ) → List ℕ → Number
+signed sign bs = cond (numeral bs) (ranged (sign (valueAfter 0 bs))) (Skipped NotNumber)
+
+abbrev pub opposite : ℕ → ℤ
+opposite n = negℤ (pos n)
+
 abbrev pub plus : List ℕ → Number
-plus bs = sign pos (magnitudeOf (2 ^ 63 - 1) bs)
+plus bs = signed pos bs
 
 abbrev pub minus : List ℕ → Number
-minus bs = sign (λ n. negℤ (pos n)) (magnitudeOf (2 ^ 63) bs)
+minus bs = signed opposite bs
 
--- a sign may stand first: 0x2D is `-`, 0x2B is `+`
+-- a text without white space at its ends. A sign may stand first: 0x2D is `-`, 0x2B is `+`
 unfoldable pub parsed : List ℕ → Number
-parsed [] = NotANumber
+parsed [] = Skipped Blank
 parsed (b ∷ bs) = cond (eqb b 0x2D) (minus bs) (cond (eqb b 0x2B) (plus bs) (plus (b ∷ bs)))
+
+-- Inner: the value of digits, where it is no more than the limit
+unfoldable pub magnitudeOf : ℕ → List ℕ → Magnitude
+magnitudeOf limit bs = cond (leb (valueAfter 0 bs) limit) (Is (valueAfter 0 bs)) Large

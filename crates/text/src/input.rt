@@ -1,5 +1,6 @@
 // What an input instruction takes: a line, with its newline (rule 10.1).
 use crate::number::Number;
+use crate::number::Reason;
 use crate::number::parse;
 use crate::utf8::Decoded;
 use crate::utf8::decode;
@@ -9,10 +10,10 @@ ghost use mathlib.Core.Path.{_≡_};
 ghost use Rattle.text.specs.Input.{Takes, intOf, charOf};
 ghost use Rattle.text.specs.Line.{lineEnd};
 
-// A value to push or none, with the place after the line; or a line that is not UTF-8.
+// A value to push, or why there is none, with the place after the line; or a line that is not UTF-8.
 pub enum Taken {
     Push { value: i64, next: usize },
-    Skip { next: usize },
+    Skip { next: usize, why: Reason },
     BadInput,
 }
 
@@ -36,15 +37,18 @@ pub fn int_in(input: &[u8], at: usize) -> Taken
     ensures { λ r. ⌜ Takes intOf (now (input .entry)) at r ⌝ }
 {
     if input.len() <= at {
-        return Taken::Skip { next: at };
+        return Taken::Skip {
+            next: at,
+            why: Reason::Ended,
+        };
     }
     let end = line_end(input, at);
     let line = &input[at..end];
     if is_utf8(line) {
-        let Number::Value(value) = parse(trim(line)) else {
-            return Taken::Skip { next: end };
-        };
-        Taken::Push { value, next: end }
+        match parse(trim(line)) {
+            Number::Value(value) => Taken::Push { value, next: end },
+            Number::Skipped(why) => Taken::Skip { next: end, why },
+        }
     } else {
         Taken::BadInput
     }
@@ -55,13 +59,20 @@ pub fn char_in(input: &[u8], at: usize) -> Taken
     ensures { λ r. ⌜ Takes charOf (now (input .entry)) at r ⌝ }
 {
     if input.len() <= at {
-        return Taken::Skip { next: at };
+        return Taken::Skip {
+            next: at,
+            why: Reason::Ended,
+        };
     }
     let end = line_end(input, at);
     let line = &input[at..end];
     if is_utf8(line) {
         let Decoded::Char { cp, next: _ } = decode(line, 0) else {
-            return Taken::Skip { next: end };
+            // never reached: a line has a character
+            return Taken::Skip {
+                next: end,
+                why: Reason::Ended,
+            };
         };
         Taken::Push {
             value: cp as i64,

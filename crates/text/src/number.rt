@@ -1,42 +1,64 @@
-// Numbers as text: what IntIn reads (rule 10.3).
-use crate::utf8::wide;
+// Numbers as text: what IntIn reads, and why a line gives none (rules 10.3, 10.8).
+use base::digit::is_digit;
+ghost use mathlib.Core.Bool.{true};
 ghost use mathlib.Core.Path.{_≡_};
 ghost use Prim.Native.Nat.{_^_, _≤_};
+ghost use Rattle.base.specs.Text.{numeral};
 ghost use Rattle.text.specs.Number.{magnitudeOf, plus, minus, parsed};
 
-// The value of digits without a sign.
-enum Magnitude {
-    Is(u64),
-    Not,
+// Why a line is skipped (rule 10.8).
+pub enum Reason {
+    // There is no line: no byte is left.
+    Ended,
+    // White space alone.
+    Blank,
+    // Something that hasn't the form of a number.
+    NotNumber,
+    // A number, but none of 64 bits.
+    OutOfRange,
 }
 
-// What a text reads as: a number, or nothing to push (rule 10.4).
+// What a line gives: a number to push, or the reason why it is skipped.
 pub enum Number {
     Value(i64),
-    NotANumber,
+    Skipped(Reason),
 }
 
-// The value of one or more digits, where it is no more than `limit`. The test comes before the product, which then can't wrap.
-fn numeral_value(s: &[u8], limit: u64) -> Magnitude
+// The value of digits without a sign, up to a limit.
+enum Magnitude {
+    Is(u64),
+    Large,
+}
+
+// Whether the bytes are digits, at least one.
+fn is_numeral(s: &[u8]) -> bool
+    ensures { λ r. ⌜ r ≡ numeral (now (s .entry)) ⌝ }
+{
+    if s.len() == 0 {
+        return false;
+    }
+    let mut i = 0;
+    while i < s.len() {
+        if !is_digit(s[i]) {
+            return false;
+        }
+        i += 1;
+    }
+    true
+}
+
+// The value of digits, where it is no more than `limit`. The test comes before the product, which then can't wrap.
+fn value_up_to(s: &[u8], limit: u64) -> Magnitude
+    requires { ⌜ numeral (now s) ≡ true ⌝ }
     requires { ⌜ (9 ≤ limit) × (limit ≤ 2 ^ 63) ⌝ }
     ensures { λ r. ⌜ r ≡ magnitudeOf limit (now (s .entry)) ⌝ }
 {
-    if s.len() == 0 {
-        return Magnitude::Not;
-    }
     let mut n: u64 = 0;
     let mut i = 0;
     while i < s.len() {
-        let b = wide(s[i]);
-        if b < 0x30 {
-            return Magnitude::Not;
-        }
-        if 0x39 < b {
-            return Magnitude::Not;
-        }
-        let d = (b - 0x30) as u64;
+        let d = (s[i] - 0x30) as u64;
         if (limit - d) / 10 < n {
-            return Magnitude::Not;
+            return Magnitude::Large;
         }
         n = n * 10 + d;
         i += 1;
@@ -44,12 +66,16 @@ fn numeral_value(s: &[u8], limit: u64) -> Magnitude
     Magnitude::Is(n)
 }
 
-// The number that digits make.
+// The number that digits make. The form is tested to its last byte before the value is looked at: digits that are too many
+// and then a letter are no number.
 fn positive(s: &[u8]) -> Number
     ensures { λ r. ⌜ r ≡ plus (now (s .entry)) ⌝ }
 {
-    let Magnitude::Is(n) = numeral_value(s, 0x7FFF_FFFF_FFFF_FFFF) else {
-        return Number::NotANumber;
+    if !is_numeral(s) {
+        return Number::Skipped(Reason::NotNumber);
+    }
+    let Magnitude::Is(n) = value_up_to(s, 0x7FFF_FFFF_FFFF_FFFF) else {
+        return Number::Skipped(Reason::OutOfRange);
     };
     Number::Value(n as i64)
 }
@@ -58,8 +84,11 @@ fn positive(s: &[u8]) -> Number
 fn negative(s: &[u8]) -> Number
     ensures { λ r. ⌜ r ≡ minus (now (s .entry)) ⌝ }
 {
-    let Magnitude::Is(n) = numeral_value(s, 0x8000_0000_0000_0000) else {
-        return Number::NotANumber;
+    if !is_numeral(s) {
+        return Number::Skipped(Reason::NotNumber);
+    }
+    let Magnitude::Is(n) = value_up_to(s, 0x8000_0000_0000_0000) else {
+        return Number::Skipped(Reason::OutOfRange);
     };
     if n == 0 {
         return Number::Value(0);
@@ -67,12 +96,12 @@ fn negative(s: &[u8]) -> Number
     Number::Value(-1 - ((n - 1) as i64))
 }
 
-// A number in decimal.
+// A number in decimal, with a sign or none.
 pub fn parse(line: &[u8]) -> Number
     ensures { λ r. ⌜ r ≡ parsed (now (line .entry)) ⌝ }
 {
     if line.len() == 0 {
-        return Number::NotANumber;
+        return Number::Skipped(Reason::Blank);
     }
     let b = line[0];
     if b == b'-' {

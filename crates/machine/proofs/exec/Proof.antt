@@ -119,7 +119,7 @@ returns : tie.Need-returns
 unfolding exec
 returns c =
     let s = c .before .before .before .before in
-    rw (c .enum-told .given .1) (unmoved (now (s .args .stack)) (now (s .args .kinds)) (now (s .args .values)) (s .args .at) (s .pre) _ refl)
+    rw (c .enum-told .given .1) (unmoved (now (s .args .stack)) (now (s .args .kinds)) (now (s .args .values)) (s .args .at) (s .pre .0) _ refl)
 
 same-length : tie.Need-same-length
 same-length c = search needs
@@ -130,7 +130,7 @@ returns-2 c =
     let s = c .before .before .before .before .before .before .before .before in
     let g = c .before .before .grow in
     rw (c .before .before .before .before .enum-told2 .given .1, c .after-growth .ensures)
-    (grown (now (s .args .stack)) (now (s .args .kinds)) (now (s .args .values)) (s .args .at) (s .pre)
+    (grown (now (s .args .stack)) (now (s .args .kinds)) (now (s .args .values)) (s .args .at) (s .pre .0)
     (Instr.push (pos (s .args .size))) (g .last .0) (g .result)
     (rw (toZ-pos w64 {n = s .args .size} (omega (arith, s .fits .size))) at (g .ensures)) (g .kept .0))
 
@@ -143,7 +143,7 @@ returns-3 c =
     let s = c .before .before .before .before .before .before .before .before in
     let q = c .before .before .pop in
     rw (c .before .before .before .before .enum-told3 .given .1, c .at-depth .ensures)
-    (stack-kept (now (s .args .stack)) (now (s .args .kinds)) (now (s .args .values)) (s .args .at) (s .pre)
+    (stack-kept (now (s .args .stack)) (now (s .args .kinds)) (now (s .args .values)) (s .args .at) (s .pre .0)
     Instr.pop (q .last .0) (q .result) (q .ensures) (q .kept .0))
 
 same-length-3 : tie.Need-same-length-3
@@ -156,7 +156,7 @@ returns-4 c =
     let o = c .before .before .before .before .before .op .given in
     let q = c .before .before .pair in
     rw (o .1, c .at-depth2 .ensures)
-    (stack-kept (now (s .args .stack)) (now (s .args .kinds)) (now (s .args .values)) (s .args .at) (s .pre)
+    (stack-kept (now (s .args .stack)) (now (s .args .kinds)) (now (s .args .values)) (s .args .at) (s .pre .0)
     (Instr.pair (o .0 .0)) (q .last .0) (q .result) (q .ensures) (q .kept .0))
 
 same-length-4 : tie.Need-same-length-4
@@ -168,7 +168,7 @@ returns-5 c =
     let s = c .before .before .before .before .before .before .before .before in
     let q = c .before .before .not in
     rw (c .before .before .before .before .enum-told4 .given .1, c .at-depth3 .ensures)
-    (stack-kept (now (s .args .stack)) (now (s .args .kinds)) (now (s .args .values)) (s .args .at) (s .pre)
+    (stack-kept (now (s .args .stack)) (now (s .args .kinds)) (now (s .args .values)) (s .args .at) (s .pre .0)
     Instr.not (q .last .0) (q .result) (q .ensures) (q .kept .0))
 
 same-length-5 : tie.Need-same-length-5
@@ -178,7 +178,7 @@ returns-6 : tie.Need-returns-6
 unfolding exec
 returns-6 c =
     let s = c .before .before .before .before .before .before .before in
-    rw (c .before .before .before .enum-told5 .given .1) (c .before .turn-pointer .ensures (now (s .args .kinds)) (now (s .args .values)) (s .pre .holds))
+    rw (c .before .before .before .enum-told5 .given .1) (c .before .turn-pointer .ensures (now (s .args .kinds)) (now (s .args .values)) (s .pre .0 .holds))
 
 same-length-6 : tie.Need-same-length-6
 same-length-6 c = search needs
@@ -187,7 +187,7 @@ returns-7 : tie.Need-returns-7
 unfolding exec
 returns-7 c =
     let s = c .before .before .before .before .before .before .before in
-    rw (c .before .before .before .enum-told6 .given .1) (c .before .flip-chooser .ensures (now (s .args .kinds)) (now (s .args .values)) (s .pre .holds))
+    rw (c .before .before .before .enum-told6 .given .1) (c .before .flip-chooser .ensures (now (s .args .kinds)) (now (s .args .values)) (s .pre .0 .holds))
 
 same-length-7 : tie.Need-same-length-7
 same-length-7 c = search needs
@@ -198,7 +198,7 @@ returns-8 c =
     let s = c .before .before .before .before .before .before .before .before in
     let g = c .before .before .double in
     rw (c .before .before .before .before .enum-told7 .given .1, c .after-growth2 .ensures)
-    (grown (now (s .args .stack)) (now (s .args .kinds)) (now (s .args .values)) (s .args .at) (s .pre)
+    (grown (now (s .args .stack)) (now (s .args .kinds)) (now (s .args .values)) (s .args .at) (s .pre .0)
     Instr.dup (g .last .0) (g .result) (g .ensures) (g .kept .0))
 
 same-length-8 : tie.Need-same-length-8
@@ -210,7 +210,7 @@ returns-9 c =
     let s = c .before .before .before .before .before .before .before .before in
     let q = c .before .before .roll in
     rw (c .before .before .before .before .enum-told8 .given .1, c .at-depth4 .ensures)
-    (stack-kept (now (s .args .stack)) (now (s .args .kinds)) (now (s .args .values)) (s .args .at) (s .pre)
+    (stack-kept (now (s .args .stack)) (now (s .args .kinds)) (now (s .args .values)) (s .args .at) (s .pre .0)
     Instr.roll (q .last .0) (q .result) (q .ensures) (q .kept .0))
 
 same-length-9 : tie.Need-same-length-9
@@ -220,7 +220,7 @@ returns-10 : tie.Need-returns-10
 unfolding exec
 returns-10 c =
     let s = c .before .before .before .before .before .before .before in
-    rw (c .before .before .before .enum-told9 .given .1) (c .before .char-in .ensures (now (s .args .kinds)) (now (s .args .values)) (s .pre .holds))
+    rw (c .before .before .before .enum-told9 .given .1) (c .before .char-in .ensures (now (s .args .kinds)) (now (s .args .values)) (s .pre .0 .holds))
 
 same-length-10 : tie.Need-same-length-10
 same-length-10 c = search needs
@@ -239,7 +239,7 @@ returns-11 c =
     let s = known .before .before .before .before in
     let r = out .char-out in
     rw (known .enum-told10 .given .1, c .after-output .ensures)
-    (wrote (now (s .args .stack)) (now (s .args .kinds)) (now (s .args .values)) (s .args .at) (s .pre)
+    (wrote (now (s .args .stack)) (now (s .args .kinds)) (now (s .args .values)) (s .args .at) (s .pre .0)
     charOut (r .last .0) (r .last .1 .1 .0) (r .last .1 .1 .1 .0)
     (r .result) (r .ensures) (r .kept .0) (r .kept .1 .1 .0) (r .kept .1 .1 .1 .0))
 
@@ -250,7 +250,7 @@ returns-12 : tie.Need-returns-12
 unfolding exec
 returns-12 c =
     let s = c .before .before .before .before .before .before .before in
-    rw (c .before .before .before .enum-told11 .given .1) (c .before .int-in .ensures (now (s .args .kinds)) (now (s .args .values)) (s .pre .holds))
+    rw (c .before .before .before .enum-told11 .given .1) (c .before .int-in .ensures (now (s .args .kinds)) (now (s .args .values)) (s .pre .0 .holds))
 
 same-length-14 : tie.Need-same-length-14
 same-length-14 c = search needs
@@ -269,7 +269,7 @@ returns-13 c =
     let s = known .before .before .before .before in
     let r = out .int-out in
     rw (known .enum-told12 .given .1, c .after-output2 .ensures)
-    (wrote (now (s .args .stack)) (now (s .args .kinds)) (now (s .args .values)) (s .args .at) (s .pre)
+    (wrote (now (s .args .stack)) (now (s .args .kinds)) (now (s .args .values)) (s .args .at) (s .pre .0)
     intOut (r .last .0) (r .last .1 .1 .0) (r .last .1 .1 .1 .0)
     (r .result) (r .ensures) (r .kept .0) (r .kept .1 .1 .0) (r .kept .1 .1 .1 .0))
 

@@ -47,7 +47,7 @@ returns-2 c =
     let s = c .before .before .before .before in
     let t = c .before .before .taken2 .given in
     rw (t .1, c .at-used2 .ensures)
-    (skipped (now (s .args .stack)) kinds values (s .args .at) (record { lies = s .pre .0; holds = h; valid = s .pre .1 }) (t .0 .0))
+    (skipped (now (s .args .stack)) kinds values (s .args .at) (record { lies = s .pre .0; holds = h; valid = s .pre .1 }) (t .0 .0) (t .0 .1 .0))
 
 returns-3 : tie.Need-returns-3
 returns-3 c =

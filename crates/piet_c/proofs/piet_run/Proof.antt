@@ -1,15 +1,13 @@
 -- `piet_c::piet_run` meets its contract. Assumes nothing.
-use mathlib.Core.List.{[], _∷_}
-use Rattle.piet_c.proofs.Telling.{told}
-use Rattle.piet_c.specs.Exported.{short}
 use mathlib.Core.Path.{refl}
+use Rattle.piet_c.specs.Exported.{short, made}
 use borrow.Author.Needs.{needs}
 use Rattle.piet_c.proofs.piet_run.Statement.{statement}
 use Rattle.piet_c.proofs.piet_run.Tie as tie
 
 -- from where the answer is told back to the run, and from there back to where the answer has room
-abbrev called : tie.After-of-ran → tie.After-run
-called c = c .before .before .before .before .before
+abbrev called : tie.After-put-ran → tie.After-run
+called c = c .before .before .before .before .before .before
 
 abbrev roomy : tie.After-run → tie.Else1
 roomy c = c .before .before .before .before
@@ -20,11 +18,8 @@ returns c = short (c .if1 .taken) refl refl refl
 run-requires : tie.Need-run-requires
 run-requires c κs = search needs
 
-of-ran-requires : tie.Need-of-ran-requires
-of-ran-requires c κs = search needs
-
-put-eight-requires : tie.Need-put-eight-requires
-put-eight-requires c κs = search needs
+put-ran-requires : tie.Need-put-ran-requires
+put-ran-requires c κs = search needs
 
 same-length : tie.Need-same-length
 same-length c = search needs
@@ -40,11 +35,10 @@ same-length-4 c = search needs
 
 returns-2 : tie.Need-returns-2
 returns-2 c =
-    let o = c .before .before .before .before in
+    let o = c .before .before in
     let r = called o in
-    let t = o .of-ran .result in
-    told (t .number) (t .status ∷ t .steps ∷ t .region ∷ t .dp ∷ t .cc ∷ t .depth ∷ t .outputs ∷ t .used ∷ []) (roomy r .if1 .left)
-    (r .run .result, refl, r .run .ensures .0) (o .of-ran .ensures) (c .before .before .put-eight .ensures)
+    let e = o .put-ran .ensures in
+    made _ (roomy r .if1 .left) (r .run .result, refl, r .run .ensures .0) (e .0) (e .1)
 
 pub piet-run-spec : {M : Type 1} → statement M
 piet-run-spec =
@@ -52,8 +46,7 @@ piet-run-spec =
     (tie.spec
     returns
     run-requires
-    of-ran-requires
-    put-eight-requires
+    put-ran-requires
     same-length
     same-length-2
     same-length-3

@@ -1,6 +1,7 @@
 -- `piet_c::put_two` meets its contract. Assumes nothing.
+use mathlib.Core.List.{[], _∷_}
 use borrow.Author.Needs.{needs}
-use Rattle.piet_c.proofs.Telling.{two-put}
+use Rattle.piet_c.proofs.Telling.{cells, cells-put}
 use Rattle.piet_c.proofs.put_two.Statement.{statement}
 use Rattle.piet_c.proofs.put_two.Tie as tie
 
@@ -14,7 +15,8 @@ same-length : tie.Need-same-length
 same-length c = search needs
 
 returns : tie.Need-returns
-returns c = two-put _ _ _ (c .pre)
+unfolding cells
+returns c = cells-put (c .args .first ∷ c .args .second ∷ []) _ (c .pre)
 
 pub put-two-spec : {M : Type 1} → statement M
 put-two-spec = tie.close (tie.spec slice-write-answer slice-write-answer-2 same-length returns)

@@ -12,6 +12,7 @@ use mir.ValLaws.{toZ-pos}
 use Rattle.text.specs.Utf8.{Valid}
 use Rattle.text.specs.Input.{charOf}
 use Rattle.text.specs.declared.number.Number.the-variants.{Value}
+use Rattle.text.specs.declared.number.Reason.the-variants.{Ended}
 use Rattle.text.proofs.ValidLaws.{is-char}
 use Rattle.text.proofs.LineLaws.{line-within}
 use Rattle.text.proofs.InputLaws.{take-none, take-bad, take-skip, take-push, char-of, no-char-of}
@@ -63,11 +64,11 @@ returns-2 c =
     let z = c .before .before .before .before .before in
     let a = z .before .before .before .args in
     let v = valid (c .before .before) in
-    take-skip charOf (a .input .now) (a .at) (z .line-end .result) (z .line-end .ensures) (v .0) (v .1)
+    take-skip charOf (a .input .now) (a .at) (z .line-end .result) (z .line-end .ensures) (v .0) (v .1) Ended
     (no-char-of _ (v .0) (v .1) (d .result) (c .match .keys2) (d .ensures))
 
-cast-t13 : tie.Need-cast-t13
-cast-t13 c = search needs
+cast-t15 : tie.Need-cast-t15
+cast-t15 c = search needs
 
 returns-3 : tie.Need-returns-3
 returns-3 c =
@@ -101,6 +102,6 @@ char-in-spec =
     decode-requires
     enum-known-cp
     returns-2
-    cast-t13
+    cast-t15
     returns-3
     returns-4)

@@ -1,18 +1,16 @@
--- `text::input::int_in` meets its contract: at the end of the input, by a line that gives a number, by one that gives none, and by
--- one that is not UTF-8.
+-- `text::input::int_in` meets its contract: at the end of the input, by a line that gives a number, by one that is skipped for a
+-- reason, and by one that is not UTF-8.
 -- Assumes nothing.
-use Prim.Native.Nat.{ℕ, _-_}
+use Prim.Native.Nat.{ℕ, _-_, _<_}
 use mathlib.Core.Path.{_≡_, refl, sym, ap, _∙_}
 use mathlib.Core.List.{List}
 use native.Mathlib.Omega.{arith}
 use borrow.Author.Needs.{needs}
-use lib.ListN.{take, drop}
-use Rattle.text.specs.Utf8.{encodes, Valid}
-use Rattle.text.specs.White.{trimStart}
-use Rattle.text.specs.Number.{parsed}
+use lib.ListN.{length, take, drop}
+use Rattle.text.specs.Utf8.{Valid}
 use Rattle.text.specs.Input.{intOf}
 use Rattle.text.specs.declared.number.Number.the-variants.{Value}
-use Rattle.text.proofs.LineLaws.{line-within}
+use Rattle.text.proofs.LineLaws.{line-within, line-some}
 use Rattle.text.proofs.InputLaws.{take-none, take-bad, take-skip, take-push, int-of}
 use Rattle.text.proofs.input.int_in.Statement.{statement}
 use Rattle.text.proofs.input.int_in.Tie as tie
@@ -29,15 +27,22 @@ line c = take (c .before .before .before .line-end .result - begin c .args .at) 
 valid : (c : tie.Then2) → Valid (line c)
 valid c = rw (c .if2 .taken) at (c .before .is-utf8 .ensures)
 
+-- a line that begins within the input has a byte
+some-bytes : (c : tie.Then2) → 0 < length (line c)
+some-bytes c =
+    let z = begin c in
+    let e = c .before .before .before .line-end in
+    line-some (z .args .input .now) (z .args .at) (e .result) (e .ensures) (c .before .before .before .before .if1 .left)
+
 -- the number that they are, trimmed
 number : (c : tie.After-parse) → intOf (valid (c .before .before) .0) ≡ c .parse .result
 number c =
     let v = valid (c .before .before) in
     let t = c .before .trim in
-    int-of _ (v .0) (v .1) (t .result .now) (t .ensures) (c .parse .result) (c .parse .ensures)
+    int-of _ (v .0) (v .1) (some-bytes (c .before .before)) (t .result .now) (t .ensures) (c .parse .result) (c .parse .ensures)
 
 returns : tie.Need-returns
-unfolding parsed trimStart encodes
+unfolding intOf
 returns c = take-none intOf (c .before .before .args .input .now) (c .before .before .args .at) refl (c .if1 .taken)
 
 line-end-requires : tie.Need-line-end-requires
@@ -66,16 +71,17 @@ parse-requires c κs = search needs
 enum-known-value : tie.Need-enum-known-value
 enum-known-value c = search needs
 
-enum-told : tie.Need-enum-told
-enum-told c = search needs
+enum-known-why : tie.Need-enum-known-why
+enum-known-why c = search needs
 
 returns-2 : tie.Need-returns-2
 returns-2 c =
-    let x = c .before .before in
+    let x = c .before .before .before in
     let v = valid (x .before .before) in
     let z = x .before .before .before .before .before in
     let a = z .before .before .before .args in
-    take-skip intOf (a .input .now) (a .at) (z .line-end .result) (z .line-end .ensures) (v .0) (v .1) (number x ∙ c .enum-told .given .1)
+    take-push intOf (a .input .now) (a .at) (z .line-end .result) (z .line-end .ensures) (v .0) (v .1) _
+    (number x ∙ c .before .value .given .1 ∙ ap Value (sym (search needs)))
 
 returns-3 : tie.Need-returns-3
 returns-3 c =
@@ -83,8 +89,8 @@ returns-3 c =
     let v = valid (x .before .before) in
     let z = x .before .before .before .before .before in
     let a = z .before .before .before .args in
-    take-push intOf (a .input .now) (a .at) (z .line-end .result) (z .line-end .ensures) (v .0) (v .1) _
-    (number x ∙ c .before .value .given .1 ∙ ap Value (sym (search needs)))
+    take-skip intOf (a .input .now) (a .at) (z .line-end .result) (z .line-end .ensures) (v .0) (v .1) (c .before .why .given .0 .0)
+    (number x ∙ c .before .why .given .1)
 
 returns-4 : tie.Need-returns-4
 returns-4 c =
@@ -106,7 +112,7 @@ int-in-spec =
     trim-requires
     parse-requires
     enum-known-value
-    enum-told
+    enum-known-why
     returns-2
     returns-3
     returns-4)

@@ -1,9 +1,9 @@
--- `netpbm::field::is_digit` meets its contract: its two tests are the definition's.
+-- `base::digit::is_digit` meets its contract: its two tests are the definition's.
 -- Assumes nothing.
 use borrow.Author.Tests.{le-leb, lt-leb}
 use Rattle.base.specs.Text.{digit}
-use Rattle.netpbm.proofs.field.is_digit.Statement.{statement}
-use Rattle.netpbm.proofs.field.is_digit.Tie as tie
+use Rattle.base.proofs.digit.is_digit.Statement.{statement}
+use Rattle.base.proofs.digit.is_digit.Tie as tie
 
 returns : tie.Need-returns
 unfolding digit

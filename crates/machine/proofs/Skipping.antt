@@ -1,0 +1,139 @@
+-- The counts of skipped number lines after an instruction.
+--     exec-counts      each is what it was, and one more where the instruction skipped a line for its reason
+--     exec-total       their sum grows by at most one
+--     times-append     reasons counted over two lists
+--     skipped-same     which line is skipped does not depend on the pointers
+-- Assumes nothing.
+use mathlib.Core.Path.{_≡_, refl, subst}
+use mathlib.Core.Bool.{Bool, true, false, cond}
+use mathlib.Core.List.{List, [], _∷_, _++_}
+use Prim.Native.Nat.{ℕ, _+_, _≤_}
+use native.Mathlib.Omega.{arith}
+use lib.Dec.{eqb}
+use lib.ListN.{length, getD}
+use Rattle.flow.specs.declared.PointerState.{PointerState}
+use Rattle.text.specs.declared.number.Number.{Number}
+use Rattle.text.specs.declared.number.Reason.{Reason}
+use Rattle.text.specs.declared.number.Reason.the-variants.{Ended, Blank, NotNumber, OutOfRange}
+use Rattle.text.specs.declared.input.Taken.{Taken}
+use Rattle.text.specs.declared.input.Taken.the-variants as Line
+use Rattle.text.specs.Input.{charOf, intOf}
+use Rattle.text.specs.Reading.{takeOf}
+use Rattle.machine.specs.declared.Op.{Op}
+use Rattle.machine.specs.declared.Op.the-variants.{Nothing, Push, Pop, Pair, Not, Ptr, Swi, Dup, Roll, CharIn, CharOut, IntIn, IntOut}
+use Rattle.machine.specs.declared.Skips.{Skips}
+use Rattle.machine.specs.Skips.{countsOf, place, countOf, total, oneMore, counted, times}
+use Rattle.machine.specs.Machine.{Given, Store, Effect, does, bad-input, turn, write, take, takeNumber, read, exec, withPointers, waiting}
+use Rattle.machine.specs.Skipped.{reasonIn, skipped}
+
+-- one more of a reason, as each count shows it
+more-counts : (w why : Reason) (s : Skips) → countOf why (oneMore w s) ≡ countOf why s + cond (eqb (place why) (place w)) 1 0
+unfolding place oneMore
+more-counts Ended Ended s = refl
+more-counts Ended Blank s = omega arith
+more-counts Ended NotNumber s = omega arith
+more-counts Ended OutOfRange s = omega arith
+more-counts Blank Ended s = omega arith
+more-counts Blank Blank s = refl
+more-counts Blank NotNumber s = omega arith
+more-counts Blank OutOfRange s = omega arith
+more-counts NotNumber Ended s = omega arith
+more-counts NotNumber Blank s = omega arith
+more-counts NotNumber NotNumber s = refl
+more-counts NotNumber OutOfRange s = omega arith
+more-counts OutOfRange Ended s = omega arith
+more-counts OutOfRange Blank s = omega arith
+more-counts OutOfRange NotNumber s = omega arith
+more-counts OutOfRange OutOfRange s = refl
+
+more-total : (w : Reason) (s : Skips) → total (oneMore w s) ≡ total s + 1
+unfolding oneMore
+more-total Ended s = omega arith
+more-total Blank s = omega arith
+more-total NotNumber s = omega arith
+more-total OutOfRange s = omega arith
+
+-- the counts s′ are s and the reasons
+record Adds (ws : List Reason) (s s′ : Skips) : Type 0 where
+  pub each : (why : Reason) → countOf why s′ ≡ countOf why s + times why ws
+  pub few : total s′ ≤ total s + 1
+
+adds-none : (s : Skips) → Adds [] s s
+unfolding times
+adds-none s = record { each = λ why. omega arith; few = omega arith }
+
+adds-one : (w : Reason) (s : Skips) → Adds (w ∷ []) s (oneMore w s)
+unfolding times
+adds-one w s = record { each = λ why. omega (arith, more-counts w why s); few = omega (arith, more-total w s) }
+
+abbrev Counts : List Reason → Store → Effect → Type 0
+Counts ws m (does m′) = Adds ws (m .reading .skips) (m′ .reading .skips)
+Counts ws m bad-input = Unit {0}
+
+-- a line that is taken counts nothing by itself
+taking : (t : Taken) (m : Store) → Counts [] m (take t m)
+unfolding take
+taking (Line.Push v n) m = adds-none (m .reading .skips)
+taking (Line.Skip n why) m = adds-none (m .reading .skips)
+taking Line.BadInput m = tt
+
+taking-number : (t : Taken) (m : Store) → Counts (reasonIn t) m (takeNumber t m)
+unfolding take counted reasonIn
+taking-number (Line.Push v n) m = adds-none (m .reading .skips)
+taking-number (Line.Skip n why) m = adds-one why (m .reading .skips)
+taking-number Line.BadInput m = tt
+
+executing : (g : Given) (size : ℕ) (op : Op) (m : Store) → Counts (skipped g op m) m (exec g size op m)
+unfolding exec turn write read skipped
+executing g size Nothing m = adds-none (m .reading .skips)
+executing g size Push m = adds-none (m .reading .skips)
+executing g size Pop m = adds-none (m .reading .skips)
+executing g size (Pair p) m = adds-none (m .reading .skips)
+executing g size Not m = adds-none (m .reading .skips)
+executing g size Ptr m = adds-none (m .reading .skips)
+executing g size Swi m = adds-none (m .reading .skips)
+executing g size Dup m = adds-none (m .reading .skips)
+executing g size Roll m = adds-none (m .reading .skips)
+executing g size CharIn m = go (g .terms .«abstract_mode»)
+  where
+    go : (t : Bool) → Counts [] m (cond t (does (waiting m)) (take (takeOf charOf (g .input) (m .reading .used)) m))
+    go true = adds-none (m .reading .skips)
+    go false = taking (takeOf charOf (g .input) (m .reading .used)) m
+executing g size CharOut m = adds-none (m .reading .skips)
+executing g size IntIn m = go (g .terms .«abstract_mode»)
+  where
+    line : Taken
+    line = takeOf intOf (g .input) (m .reading .used)
+
+    go : (t : Bool) → Counts (cond t [] (reasonIn line)) m (cond t (does (waiting m)) (takeNumber line m))
+    go true = adds-none (m .reading .skips)
+    go false = taking-number line m
+executing g size IntOut m = adds-none (m .reading .skips)
+
+module _ (g : Given) (size : ℕ) (op : Op) (m : Store) {m′ : Store} (e : exec g size op m ≡ does m′) where
+  pub exec-counts : (why : Reason) → countOf why (m′ .reading .skips) ≡ countOf why (m .reading .skips) + times why (skipped g op m)
+  exec-counts = subst (Counts (skipped g op m) m) e (executing g size op m) .each
+
+  pub exec-total : total (m′ .reading .skips) ≤ total (m .reading .skips) + 1
+  exec-total = subst (Counts (skipped g op m) m) e (executing g size op m) .few
+
+pub times-append : (why : Reason) (ws vs : List Reason) → times why (ws ++ vs) ≡ times why ws + times why vs
+unfolding times
+times-append why [] vs = omega arith
+times-append why (w ∷ ws) vs = omega (arith, times-append why ws vs)
+
+pub skipped-same : (g : Given) (op : Op) (u : PointerState) (m : Store) → skipped g op (withPointers u m) ≡ skipped g op m
+unfolding skipped
+skipped-same g Nothing u m = refl
+skipped-same g Push u m = refl
+skipped-same g Pop u m = refl
+skipped-same g (Pair p) u m = refl
+skipped-same g Not u m = refl
+skipped-same g Ptr u m = refl
+skipped-same g Swi u m = refl
+skipped-same g Dup u m = refl
+skipped-same g Roll u m = refl
+skipped-same g CharIn u m = refl
+skipped-same g CharOut u m = refl
+skipped-same g IntIn u m = refl
+skipped-same g IntOut u m = refl

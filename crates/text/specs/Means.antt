@@ -1,0 +1,33 @@
+-- What a line is to IntIn, by what it means: a number, or one of the four reasons to skip it (rules 10.3, 10.8).
+-- proofs/Meaning.antt has that each line is one of the five, and no two, and that it is the one that `intOf` tells.
+-- Assumes nothing.
+use Prim.Native.Nat.{ℕ}
+use mathlib.Core.Path.{_≡_}
+use mathlib.Core.Bool.{true, false}
+use mathlib.Core.List.{List, [], _∷_}
+use lib.IntN.{ℤ, pos}
+use Rattle.base.specs.Text.{numeral, valueAfter}
+use Rattle.text.specs.Utf8.{encodes}
+use Rattle.text.specs.White.{trimmed}
+use Rattle.text.specs.Number.{inRange, opposite}
+use Rattle.text.specs.declared.number.Number.{Number}
+use Rattle.text.specs.declared.number.Number.the-variants.{Value, Skipped}
+use Rattle.text.specs.declared.number.Reason.the-variants.{Ended, Blank, NotNumber, OutOfRange}
+
+-- a text has the form of a number, and says the number z: digits, at least one, after a sign or none
+pub data Says : List ℕ → ℤ → Type 0 where
+  bare : (digits : List ℕ) → numeral digits ≡ true → Says digits (pos (valueAfter 0 digits))
+  plus : (digits : List ℕ) → numeral digits ≡ true → Says (0x2B ∷ digits) (pos (valueAfter 0 digits))
+  minus : (digits : List ℕ) → numeral digits ≡ true → Says (0x2D ∷ digits) (opposite (valueAfter 0 digits))
+
+-- what is left of the characters of a line without the white space at its ends, in bytes
+abbrev pub left : List ℕ → List ℕ
+left cs = encodes (trimmed cs)
+
+-- the line of the characters cs. Only at the end of the input has it none
+unfoldable pub Means : List ℕ → Number → Type 0
+Means cs (Value z) = Says (left cs) z × (inRange z ≡ true)
+Means cs (Skipped Ended) = cs ≡ []
+Means cs (Skipped Blank) = (cs ≡ [] → ⊥) × (left cs ≡ [])
+Means cs (Skipped NotNumber) = (left cs ≡ [] → ⊥) × ((z : ℤ) → Says (left cs) z → ⊥)
+Means cs (Skipped OutOfRange) = (z : ℤ) × Says (left cs) z × (inRange z ≡ false)
