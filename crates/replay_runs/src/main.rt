@@ -1,6 +1,6 @@
 // Replays stored runs of the Rust: `stdin` holds questions, each a picture, then the limit in four bytes, the mode, the
 // stack's room, the output's room and the input's length, a byte each, and the input; `stdout` has a line for each: the
-// run's eight numbers, the stack from its top, and a kind and a value for each output.
+// run's twelve numbers, the stack from its top, and a kind and a value for each output.
 ghost use Prim.Native.Nat.{_≤_};
 ghost use lib.ListN.{length};
 use cfg::Built;
@@ -15,15 +15,10 @@ fn print_signed(v: i64) {
     io::print_decimal(STDOUT_FILENO, word::abs(v));
 }
 
-fn print_answer(answer: &[u64; 8]) {
-    io::print_decimal(STDOUT_FILENO, answer[0]);
-    stored::print_number(answer[1]);
-    stored::print_number(answer[2]);
-    stored::print_number(answer[3]);
-    stored::print_number(answer[4]);
-    stored::print_number(answer[5]);
-    stored::print_number(answer[6]);
-    stored::print_number(answer[7]);
+fn print_answer(answer: &[u64; 12]) {
+    let numbers = &answer[..];
+    io::print_decimal(STDOUT_FILENO, numbers[0]);
+    stored::print_numbers(&numbers[1..]);
 }
 
 // The first depth values from the last to the first.
@@ -66,7 +61,7 @@ fn print_run(
 )
     requires { ⌜ 8 ≤ length (now question) ⌝ }
 {
-    let mut answer = [0u64; 8];
+    let mut answer = [0u64; 12];
     let limit = limit_of(question[0], question[1], question[2], question[3]);
     let number = piet_c::piet_run(
         n,

@@ -1,5 +1,5 @@
 //! Asks the given Rust and puts its answers into the numbers of the rules (docs/RULES.md). Nothing here
-//! decides what the Rust decides.
+//! decides what the Rust decides; `skips` decides what it does not tell.
 pub mod job;
 #[cfg(feature = "archive")]
 pub mod library;
@@ -11,3 +11,4 @@ pub mod paint;
 pub mod picture;
 pub mod question;
 pub mod random;
+pub mod skips;

@@ -211,6 +211,10 @@ pub fn determine_runs_forever(table: &Table, answer: &mut [u64]) -> u32 {
     unsafe { piet_determine_runs_forever(*n, r, rows.len(), e, exits.len(), a, answer.len()) }
 }
 
+/// The numbers that a run answers.
+#[cfg(feature = "run")]
+pub const RUN_ANSWER: usize = 12;
+
 /// The three slices that a run is lent.
 #[cfg(feature = "run")]
 pub struct Space {
@@ -249,6 +253,10 @@ pub fn run(
         )
     }
 }
+
+/// The numbers that the whole run of a picture answers: those of the run, and the count of regions.
+#[cfg(feature = "picture")]
+pub const PICTURE_ANSWER: usize = RUN_ANSWER + 1;
 
 /// The slices that the whole run of a picture is lent, but for its answer.
 #[cfg(feature = "picture")]

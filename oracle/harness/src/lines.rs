@@ -1,5 +1,6 @@
 //! What the input instructions make of a line.
 use crate::machine::{execute, Before, BAD_LINE};
+use crate::skips::{reason, Reason};
 use std::fmt::{Display, Formatter};
 use std::io::{BufRead, Cursor, ErrorKind};
 
@@ -9,7 +10,8 @@ const INT_IN: u8 = 16;
 #[derive(Clone, Copy, Debug, PartialEq, Eq)]
 pub enum Taken {
     Pushed(i64),
-    Skipped,
+    /// with the reason where IntIn skips
+    Skipped(Option<Reason>),
     Bad,
 }
 
@@ -28,9 +30,13 @@ pub fn char_in(input: &[u8]) -> (Taken, usize) {
     agreed(CHAR_IN, first_char, input)
 }
 
-/// What IntIn does at the start of this input, and the bytes it consumes.
+/// What IntIn does at the start of this input, and the bytes it consumes. There has to be a reason exactly
+/// where it skips.
 pub fn int_in(input: &[u8]) -> (Taken, usize) {
-    agreed(INT_IN, number, input)
+    let (taken, used) = agreed(INT_IN, number, input);
+    let why = reason(input, 0);
+    assert_eq!(why.is_some(), taken == Taken::Skipped(None), "{input:02x?}");
+    (why.map_or(taken, |_| Taken::Skipped(why)), used)
 }
 
 /// The standard library's answer, which has to be the interpreter's own.
@@ -44,7 +50,7 @@ fn agreed(instruction: u8, value: fn(&str) -> Option<i64>, input: &[u8]) -> (Tak
 fn by_library(value: fn(&str) -> Option<i64>, input: &[u8]) -> (Taken, usize) {
     let mut line = String::new();
     match Cursor::new(input).read_line(&mut line) {
-        Ok(used) => (value(&line).map_or(Taken::Skipped, Taken::Pushed), used),
+        Ok(used) => (pushed(value(&line)), used),
         Err(e) => {
             assert_eq!(e.kind(), ErrorKind::InvalidData);
             (Taken::Bad, 0)
@@ -55,7 +61,7 @@ fn by_library(value: fn(&str) -> Option<i64>, input: &[u8]) -> (Taken, usize) {
 fn by_interpreter(instruction: u8, input: &[u8]) -> (Taken, usize) {
     let before = Before { size: 0, state: 0, stack: &[], input, is_abstract: false };
     match execute(instruction, &before) {
-        Ok(a) => (a.stack.first().map_or(Taken::Skipped, |&v| Taken::Pushed(v)), a.used),
+        Ok(a) => (pushed(a.stack.first().copied()), a.used),
         Err(text) => {
             assert!(text.starts_with(BAD_LINE), "{text}");
             (Taken::Bad, 0)
@@ -63,11 +69,16 @@ fn by_interpreter(instruction: u8, input: &[u8]) -> (Taken, usize) {
     }
 }
 
+fn pushed(value: Option<i64>) -> Taken {
+    value.map_or(Taken::Skipped(None), Taken::Pushed)
+}
+
 impl Display for Taken {
     fn fmt(&self, f: &mut Formatter) -> std::fmt::Result {
         match self {
             Taken::Pushed(v) => write!(f, "{v}"),
-            Taken::Skipped => write!(f, "s"),
+            Taken::Skipped(None) => write!(f, "s"),
+            Taken::Skipped(Some(why)) => write!(f, "{why}"),
             Taken::Bad => write!(f, "b"),
         }
     }

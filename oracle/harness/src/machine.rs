@@ -1,10 +1,11 @@
 //! The run: as the Rust has it, in lent room, and one instruction alone.
 use crate::numbers::instruction;
 use crate::outside::{caught, with_input};
+use crate::skips::{reason, Skips};
 use interpreter::interpreter::Interpreter;
 use piet_core::cfg::{Node, CFG};
 use piet_core::flow::DIRECTIONS;
-use piet_core::instruction::StdOutWrapper;
+use piet_core::instruction::{Instruction, StdOutWrapper};
 use piet_core::settings::{InterpreterSettings, Verbosity};
 use piet_core::state::{ExecutionState, ExecutionStatus};
 use std::cell::Cell;
@@ -130,57 +131,115 @@ pub fn run(cfg: &CFG, terms: &Terms) -> Result<Answer, String> {
 /// and the answer is as before that step.
 pub struct Judged {
     pub answer: Answer,
+    /// by the steps taken
+    pub skips: Skips,
     pub panic: Option<String>,
+}
+
+impl Judged {
+    /// What the Rust answers where the walk led, which it has to have reached by the same steps.
+    fn of(answer: Answer, walked: &Walked, panic: Option<String>) -> Self {
+        assert_eq!((answer.steps, answer.used), (walked.steps, walked.place));
+        Judged { answer, skips: walked.skips, panic }
+    }
+
+    /// The numbers of the result (rule 8.5), with that of the region it names.
+    pub fn numbers(&self, region: usize) -> [u64; 12] {
+        let a = &self.answer;
+        let [status, dp, cc] = [a.status, a.dp, a.cc].map(u64::from);
+        let [region, depth, outputs, used] =
+            [region, a.stack.len(), a.outputs.len(), a.used].map(|n| n as u64);
+        let [ended, blank, not_number, out_of_range] = self.skips;
+        [
+            status, a.steps, region, dp, cc, depth, outputs, used, ended, blank, not_number,
+            out_of_range,
+        ]
+    }
 }
 
 /// The Rust has no room to run out of. So a walk finds the first step that passes the room or
 /// panics, and `run` itself is asked for the states on both sides of it. Needs an entry.
 pub fn run_in_room(cfg: &CFG, terms: &Terms, room: &Room) -> Judged {
-    let (steps, stop) = walk(cfg, terms, room);
+    let (walked, stop) = walk(cfg, terms, room);
     if stop == Ok(0) {
         let answer = run(cfg, terms).expect("the walk met no panic");
-        return Judged { answer, panic: None };
+        return Judged::of(answer, &walked, None);
     }
     let upto = |limit| run(cfg, &Terms { limit, ..*terms });
-    let mut answer = upto(steps).expect("the walk met no panic so far");
-    assert_eq!((answer.status, answer.steps), (2, steps));
-    confirm(&stop, &answer, upto(steps + 1), room);
+    let mut answer = upto(walked.steps).expect("the walk met no panic so far");
+    assert_eq!(answer.status, 2);
+    confirm(&stop, &answer, upto(walked.steps + 1), room);
     let (status, panic) = match stop {
         Ok(status) => (status, None),
         Err(text) if text.starts_with(BAD_LINE) => (BAD_INPUT, None),
         Err(text) => (answer.status, Some(text)),
     };
     answer.status = status;
-    Judged { answer, panic }
+    Judged::of(answer, &walked, panic)
 }
 
-/// The number of steps before the first one that passes the room or panics, and which it is; 0
-/// where the run ends without one.
-fn walk(cfg: &CFG, terms: &Terms, room: &Room) -> (u64, Result<u32, String>) {
-    let steps = Cell::new(0);
+/// Steps taken, the place in the input after them, and the lines that they skipped.
+#[derive(Clone, Copy, Default)]
+struct Walked {
+    steps: u64,
+    place: usize,
+    skips: Skips,
+}
+
+/// The steps before the first one that passes the room or panics, and which it is; 0 where the run
+/// ends without one.
+fn walk(cfg: &CFG, terms: &Terms, room: &Room) -> (Walked, Result<u32, String>) {
+    let walked = Cell::new(Walked::default());
     let (stop, _) = with_input(terms.input, || {
         let mut machine = interpreter(cfg, terms);
         let mut block = machine.get_entry();
-        while steps.get() != terms.limit && machine.is_complete() != ExecutionStatus::NeedsInput {
+        while walked.get().steps != terms.limit
+            && machine.is_complete() != ExecutionStatus::NeedsInput
+        {
             machine.open_state().cb_count = block.get_region_size();
             let (Some(next), instruction) = machine.next_block(block) else {
                 break;
             };
             block = next;
-            if let Some(i) = instruction {
-                let _skipped = machine.exec_instr(i);
-            }
+            let after = step(&mut machine, instruction, terms, walked.get());
             if machine.open_state().stack.len() > room.stack {
                 return STACK_FULL;
             }
             if machine.open_state().stdout.len() > room.outputs {
                 return OUTPUT_FULL;
             }
-            steps.set(steps.get() + 1);
+            walked.set(after);
         }
         0
     });
-    (steps.get(), stop)
+    (walked.get(), stop)
+}
+
+/// One step more, with what its instruction reads and skips; it is taken only where the room holds what it leaves.
+fn step(
+    machine: &mut Interpreter,
+    instruction: Option<Instruction>,
+    terms: &Terms,
+    before: Walked,
+) -> Walked {
+    let mut after = Walked { steps: before.steps + 1, ..before };
+    let Some(instruction) = instruction else {
+        return after;
+    };
+    let depth = machine.open_state().stack.len();
+    let _skipped = machine.exec_instr(instruction);
+    let state = machine.open_state();
+    if matches!(instruction, Instruction::CharIn | Instruction::IntIn) {
+        after.place += state.stdin.len();
+    }
+    if instruction == Instruction::IntIn && !terms.is_abstract {
+        let why = reason(terms.input, before.place);
+        assert_eq!(why.is_none(), state.stack.len() > depth, "there is a reason where IntIn skips");
+        if let Some(why) = why {
+            after.skips[why as usize] += 1;
+        }
+    }
+    after
 }
 
 fn confirm(

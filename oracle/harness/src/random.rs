@@ -27,6 +27,29 @@ const LINES: [&[u8]; 14] = [
     b"1",
 ];
 
+const WHITE_SPACE: [&[u8]; 5] = [b"", b"", b" ", b"\t\r", b"\xE3\x80\x80"];
+
+/// What stands between the white space of a line for IntIn: a sign, zeros, digits about the bounds of i64, and what
+/// spoils a number or the whole line.
+const NUMBER: [&[&[u8]]; 4] = [
+    &[b"", b"", b"", b"+", b"-", b"-", b"+-", b"- "],
+    &[b"", b"", b"000", b"0000000000000000000000000000"],
+    &[
+        b"",
+        b"5",
+        b"12",
+        b"9223372036854775807",
+        b"9223372036854775808",
+        b"9223372036854775809",
+        b"99999999999999999999",
+        b"123456789012345678901234567890",
+    ],
+    &[b"", b"", b"", b"", b"", b"", b"x", b" 1", b"\xEF\xBC\x95", b"\xFF"],
+];
+
+/// Where there is none, the line goes on in the next one.
+const LINE_ENDS: [&[u8]; 7] = [b"\n", b"\n", b"\n", b"\n", b"\r\n", b"\r\n", b""];
+
 impl Random {
     pub fn seeded(seed: u64) -> Self {
         Random(seed)
@@ -95,6 +118,17 @@ impl Random {
 
     pub fn input(&mut self) -> Vec<u8> {
         (0..self.below(6)).flat_map(|_| self.pick(&LINES)).copied().collect()
+    }
+
+    /// Up to seven lines, most of which IntIn skips, for each of the reasons.
+    pub fn number_lines(&mut self) -> Vec<u8> {
+        (0..self.below(8)).flat_map(|_| self.number_line()).collect()
+    }
+
+    fn number_line(&mut self) -> Vec<u8> {
+        let number = NUMBER.map(|part| self.pick(part)).concat();
+        let middle = if self.one_in(4) { vec![] } else { number };
+        [self.pick(&WHITE_SPACE), &middle, self.pick(&WHITE_SPACE), self.pick(&LINE_ENDS)].concat()
     }
 
     /// Up to twenty instructions, values often among them.

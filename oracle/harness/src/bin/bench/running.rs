@@ -1,7 +1,7 @@
 //! Runs.
 use crate::inputs::programs;
 use crate::timing::{fastest, line};
-use harness::library::{self, Space, Table};
+use harness::library::{self, Space, Table, RUN_ANSWER};
 use harness::machine::{self, Terms};
 use harness::picture::{Built, Picture};
 
@@ -19,7 +19,7 @@ fn run(name: &str, picture: &Picture) {
     let rust = fastest(|| machine::run(&built.cfg, &terms).expect("no panic").steps);
     let table = table(&built);
     let mut space = Space { stack: vec![0; 64], kinds: vec![0; 64], values: vec![0; 64] };
-    let mut answer = [0; 8];
+    let mut answer = [0; RUN_ANSWER];
     let ours = fastest(|| {
         assert_eq!(library::run(&table, &terms, &mut space, &mut answer), 0);
     });

@@ -1,7 +1,7 @@
 //! What the parts share: an outcome as lists of numbers, and the search for a difference.
 use std::collections::BTreeMap;
 use std::fmt::{Display, Formatter};
-use std::iter::successors;
+use std::iter::{once, successors};
 use std::ops::Range;
 use std::time::{Duration, Instant};
 
@@ -14,8 +14,8 @@ pub trait Case: Sized {
     fn smaller(&self) -> impl Iterator<Item = Self>;
     fn shown(&self) -> String;
     /// What cases are counted by: the number returned, unless there is more to say.
-    fn kind(expected: &Outcome) -> String {
-        format!("number {}", expected.list("number")[0])
+    fn kinds(expected: &Outcome) -> Vec<String> {
+        vec![expected.number_returned()]
     }
 }
 
@@ -32,22 +32,41 @@ impl Outcome {
         &found.expect("a list of this name").1
     }
 
-    /// The kind of a run: its status where it is not refused.
-    pub fn status_or_number(&self) -> String {
-        let number = self.list("number")[0];
-        let status = self.list("answer").first().filter(|_| number == 0);
-        status.map_or(format!("number {number}"), |status| format!("status {status}"))
+    fn number_returned(&self) -> String {
+        format!("number {}", self.list("number")[0])
+    }
+
+    /// The kinds of a run: where it is not refused its status, and for what reasons lines were skipped.
+    pub fn kinds_of_run(&self) -> Vec<String> {
+        if self.list("number") != [0] {
+            return vec![self.number_returned()];
+        }
+        let answer = self.list("answer");
+        let reasons = REASONS.iter().zip(&answer[8..]).filter(|(_, count)| **count > 0);
+        let status = format!("status {}", answer[0]);
+        once(status).chain(reasons.map(|(reason, _)| format!("{reason} counted"))).collect()
     }
 }
 
-/// How many cases there were of each kind.
+/// What the cells of a run's answer from 8 on count.
+const REASONS: [&str; 4] = ["ended", "blank", "not_number", "out_of_range"];
+
+/// How many cases there were, and how many of each kind; a case may be of several.
 #[derive(Default)]
-pub struct Counts(BTreeMap<String, u64>);
+pub struct Counts {
+    cases: u64,
+    kinds: BTreeMap<String, u64>,
+}
 
 impl Counts {
+    fn of_one(kinds: Vec<String>) -> Counts {
+        Counts { cases: 1, kinds: kinds.into_iter().map(|kind| (kind, 1)).collect() }
+    }
+
     pub fn and(mut self, other: Counts) -> Counts {
-        for (kind, count) in other.0 {
-            *self.0.entry(kind).or_default() += count;
+        self.cases += other.cases;
+        for (kind, count) in other.kinds {
+            *self.kinds.entry(kind).or_default() += count;
         }
         self
     }
@@ -55,8 +74,8 @@ impl Counts {
 
 impl Display for Counts {
     fn fmt(&self, f: &mut Formatter) -> std::fmt::Result {
-        write!(f, "{} cases", self.0.values().sum::<u64>())?;
-        self.0.iter().try_for_each(|(kind, count)| write!(f, ", {count} with {kind}"))
+        write!(f, "{} cases", self.cases)?;
+        self.kinds.iter().try_for_each(|(kind, count)| write!(f, ", {count} with {kind}"))
     }
 }
 
@@ -73,7 +92,7 @@ pub fn check<C: Case>(name: &str, cases: impl Iterator<Item = C>) -> Checked {
         if expected != found {
             return Err(format!("{name}: case {i} differs\n{}", report(smallest(case))));
         }
-        *counts.0.entry(C::kind(&expected)).or_default() += 1;
+        counts = counts.and(Counts::of_one(C::kinds(&expected)));
         if spoke.elapsed() > PROGRESS {
             println!("{name}: {} cases so far", i + 1);
             spoke = Instant::now();

@@ -2,9 +2,9 @@
 use crate::building::{self, Building, FAR};
 use crate::cases::{bits, check, over, pattern, wide, Case, Checked, Outcome};
 use crate::classify::{self, blurred, Classifying};
-use crate::running::{self, longer, question, shown_terms, sooner, told, Longer};
-use harness::library::{self, Whole};
-use harness::machine::{Answer, Judged, Terms};
+use crate::running::{self, longer, question, shown_terms, sooner, Longer};
+use harness::library::{self, Whole, PICTURE_ANSWER};
+use harness::machine::{Judged, Terms};
 use harness::numbers::palette;
 use harness::picture::{Built, Picture};
 use harness::question::Question;
@@ -13,7 +13,6 @@ use harness::random::Random;
 const SEED: u64 = 8;
 const BY_CHANCE: usize = 500_000;
 const LONGEST: u32 = 8;
-const ANSWER: usize = 9;
 const RED: u8 = 6;
 const WHITE: usize = 19;
 
@@ -44,7 +43,7 @@ fn with_a_run(random: &mut Random, building: Building, palette: &Palette) -> Pic
     let Building { height, width, codel, colours, lent, .. } = building;
     let pixels = colours.iter().flat_map(|&c| palette[c as usize]).collect();
     let room = height * width + random.below(3) as usize;
-    let answer = ANSWER + random.below(3) as usize;
+    let answer = PICTURE_ANSWER + random.below(3) as usize;
     let setting = random.below(4) as u8;
     let classifying = Classifying { height, width, setting, pixels, colours: room, answer };
     let none = Picture { height: 0, width: 0, codel: 0, colours: vec![] };
@@ -80,7 +79,7 @@ fn spoil(case: &mut Picturing, random: &mut Random, palette: &Palette) {
         4 => over_first(&mut case.classifying.pixels, palette[WHITE]),
         5 if random.one_in(16) => *case = with_a_run(random, too_fine(), palette),
         5 | 6 => building::shorten(&mut case.lent[random.below(4) as usize], random),
-        _ => case.classifying.answer = random.below(ANSWER as u32) as usize,
+        _ => case.classifying.answer = random.below(PICTURE_ANSWER as u32) as usize,
     }
 }
 
@@ -122,24 +121,24 @@ impl Picturing {
 
     fn refused(&self, number: u32, place: [usize; 2]) -> Outcome {
         let (lent, mut answer) = self.lent();
-        if let Some(cells) = answer.first_chunk_mut::<ANSWER>() {
-            *cells = [0; ANSWER];
+        if let Some(cells) = answer.first_chunk_mut::<PICTURE_ANSWER>() {
+            *cells = [0; PICTURE_ANSWER];
             over(&place.map(|p| p as u64), cells);
             return outcome(number, &answer, &lent);
         }
         outcome(4, &answer, &lent)
     }
 
-    fn done(&self, built: &Built, picture: &Picture, ran: &Answer) -> Outcome {
+    fn done(&self, built: &Built, picture: &Picture, ran: &Judged) -> Outcome {
         let (mut lent, mut answer) = self.lent();
-        if answer.len() < ANSWER {
+        if answer.len() < PICTURE_ANSWER {
             return outcome(4, &answer, &lent);
         }
         over(&picture.colours, &mut lent.colours);
         building::write(built, &mut lent.table);
-        running::write(ran, &mut lent.space);
-        over(&told(built.region(&ran.label), ran), &mut answer);
-        answer[ANSWER - 1] = built.rows.len() as u64;
+        running::write(&ran.answer, &mut lent.space);
+        over(&ran.numbers(built.region(&ran.answer.label)), &mut answer);
+        answer[PICTURE_ANSWER - 1] = built.rows.len() as u64;
         outcome(0, &answer, &lent)
     }
 
@@ -180,13 +179,13 @@ impl Case for Picturing {
             }
             Ok(judged) => judged,
         };
-        let Judged { answer, panic } = self.question.judged(&built);
-        let limit = if panic.is_some() { answer.steps } else { self.question.limit };
-        [self.done(&built, &picture, &answer), self.found(limit)]
+        let ran = self.question.judged(&built);
+        let limit = if ran.panic.is_some() { ran.answer.steps } else { self.question.limit };
+        [self.done(&built, &picture, &ran), self.found(limit)]
     }
 
-    fn kind(expected: &Outcome) -> String {
-        expected.status_or_number()
+    fn kinds(expected: &Outcome) -> Vec<String> {
+        expected.kinds_of_run()
     }
 
     fn smaller(&self) -> impl Iterator<Item = Self> {

@@ -1,7 +1,7 @@
 //! The run: by chance, in lent room by chance, and what is refused.
 use crate::cases::{bits, check, hex, over, pattern, wide, Case, Checked, Named, Outcome};
 use crate::tables::{shown_picture, smaller_pictures, Spoil};
-use harness::library::{self, Space};
+use harness::library::{self, Space, RUN_ANSWER};
 use harness::machine::{Answer, Judged, Output, Room, Terms};
 use harness::paint::{row, row_over_white};
 use harness::picture::{build, Built, Picture};
@@ -33,7 +33,8 @@ fn by_chance(random: &mut Random) -> Running {
     let question = question(random, picture);
     let spoil = if random.one_in(16) { Spoil::by_chance(random) } else { Spoil::None };
     let longer = longer(random);
-    let answer = if random.one_in(64) { random.below(8) } else { 8 + random.below(3) };
+    let enough = RUN_ANSWER as u32;
+    let answer = if random.one_in(64) { random.below(enough) } else { enough + random.below(3) };
     Running { question, spoil, longer, answer: answer as usize }
 }
 
@@ -44,7 +45,7 @@ pub fn question(random: &mut Random, picture: Picture) -> Question {
         limit: limit(random),
         is_abstract: random.one_in(8),
         room: room(random),
-        input: random.input(),
+        input: if random.one_in(2) { random.input() } else { random.number_lines() },
     }
 }
 
@@ -103,12 +104,6 @@ fn kind_and_value(output: &Output) -> (u8, i64) {
     }
 }
 
-pub fn told(region: usize, a: &Answer) -> [u64; 8] {
-    let (region, used) = (region as u64, a.used as u64);
-    let (depth, outputs) = (a.stack.len() as u64, a.outputs.len() as u64);
-    [a.status as u64, a.steps, region, a.dp as u64, a.cc as u64, depth, outputs, used]
-}
-
 fn outcome(number: u32, answer: &[u64], space: &Space) -> Outcome {
     let told = [("number", vec![number.into()]), ("answer", bits(answer))];
     Outcome(told.into_iter().chain(cells(space)).collect())
@@ -124,17 +119,17 @@ impl Running {
         space(&self.question.room, self.longer)
     }
 
-    fn expected(&self, built: &Built, ran: &Answer) -> Outcome {
+    fn expected(&self, built: &Built, ran: &Judged) -> Outcome {
         let (mut space, mut answer) = (self.space(), pattern(self.answer));
-        if answer.len() < 8 {
+        if answer.len() < RUN_ANSWER {
             return outcome(4, &answer, &space);
         }
         if self.spoil.refused() {
-            over(&[0; 8], &mut answer);
+            over(&[0; RUN_ANSWER], &mut answer);
             return outcome(10, &answer, &space);
         }
-        over(&told(built.region(&ran.label), ran), &mut answer);
-        write(ran, &mut space);
+        over(&ran.numbers(built.region(&ran.answer.label)), &mut answer);
+        write(&ran.answer, &mut space);
         outcome(0, &answer, &space)
     }
 
@@ -151,13 +146,13 @@ impl Case for Running {
     /// Where the Rust panics and the rules choose, the run is asked up to there only.
     fn outcomes(&self) -> [Outcome; 2] {
         let built = build(&self.question.picture);
-        let Judged { answer, panic } = self.question.judged(&built);
-        let limit = if panic.is_some() { answer.steps } else { self.question.limit };
-        [self.expected(&built, &answer), self.found(&built, limit)]
+        let ran = self.question.judged(&built);
+        let limit = if ran.panic.is_some() { ran.answer.steps } else { self.question.limit };
+        [self.expected(&built, &ran), self.found(&built, limit)]
     }
 
-    fn kind(expected: &Outcome) -> String {
-        expected.status_or_number()
+    fn kinds(expected: &Outcome) -> Vec<String> {
+        expected.kinds_of_run()
     }
 
     fn smaller(&self) -> impl Iterator<Item = Self> {

@@ -135,7 +135,7 @@ fn ask_job(bytes: &[u8]) -> String {
     match job(bytes) {
         None => "none".into(),
         Some(Done::Refused(n)) => refused(n),
-        Some(Done::Ran(Judged { answer, panic })) => {
+        Some(Done::Ran(Judged { answer, panic, .. })) => {
             answer.to_string() + &panic.map_or(String::new(), panicked)
         }
     }

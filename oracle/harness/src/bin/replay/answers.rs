@@ -1,5 +1,5 @@
 //! The lines of tables and runs: words with one space between them.
-use harness::machine::{Answer, Output};
+use harness::machine::{Judged, Output};
 use harness::picture::{build, Picture};
 use harness::question::Question;
 use std::fmt::Display;
@@ -16,18 +16,16 @@ pub fn table(picture: &Picture) -> String {
 /// The Rust has to have an answer.
 pub fn run(question: &Question) -> Result<String, String> {
     let (built, judged) = question.asked().ok_or("a first pixel is white")?;
-    match judged.panic {
-        None => Ok(run_line(built.region(&judged.answer.label), &judged.answer)),
+    match &judged.panic {
+        None => Ok(run_line(built.region(&judged.answer.label), &judged)),
         Some(text) => Err(format!("the Rust panics: {text}")),
     }
 }
 
-fn run_line(region: usize, a: &Answer) -> String {
-    let (steps, region, used) = (a.steps as i64, region as i64, a.used as i64);
-    let (depth, outputs) = (a.stack.len() as i64, a.outputs.len() as i64);
-    let numbers = [a.status as i64, steps, region, a.dp as i64, a.cc as i64, depth, outputs, used];
-    let pairs: Vec<[i64; 2]> = a.outputs.iter().map(kind_and_value).collect();
-    sections([&numbers[..], &a.stack, pairs.as_flattened()])
+fn run_line(region: usize, ran: &Judged) -> String {
+    let numbers = ran.numbers(region).map(|n| n as i64);
+    let pairs: Vec<[i64; 2]> = ran.answer.outputs.iter().map(kind_and_value).collect();
+    sections([&numbers[..], &ran.answer.stack, pairs.as_flattened()])
 }
 
 fn kind_and_value(output: &Output) -> [i64; 2] {

@@ -1,4 +1,5 @@
 //! The run questions that are replayed. Those that the Rust does not answer are left out.
+use crate::skipping;
 use harness::machine::Room;
 use harness::paint::{drawn, ops, row, row_over_white, Op};
 use harness::picture::Picture;
@@ -15,9 +16,14 @@ const INSTRUCTIONS: [Instruction; 17] = [
     IntOut,
 ];
 
-const ROOM: Room = Room { stack: 16, outputs: 8 };
+pub const ROOM: Room = Room { stack: 16, outputs: 8 };
 
 pub fn jobs() -> Vec<Question> {
+    [for_the_run_program(), skipping::jobs()].concat()
+}
+
+/// All but those that are there for the counts of skipped lines, which the run program does not print.
+pub fn for_the_run_program() -> Vec<Question> {
     let mut all = document();
     all.extend(depths());
     all.extend(two_values());
@@ -33,13 +39,13 @@ pub fn jobs() -> Vec<Question> {
     all
 }
 
-fn question(picture: Picture, limit: usize, input: &[u8]) -> Question {
+pub fn question(picture: Picture, limit: usize, input: &[u8]) -> Question {
     let (limit, input) = (limit as u64, input.to_vec());
     Question { picture, limit, is_abstract: false, room: ROOM, input }
 }
 
 /// The program to its end, and so many steps more.
-fn program(program: &[Op], more: usize, input: &[u8]) -> Question {
+pub fn program(program: &[Op], more: usize, input: &[u8]) -> Question {
     question(row(program), program.len() + more, input)
 }
 

@@ -5,6 +5,7 @@ mod pictures;
 mod programs;
 mod questions;
 mod records;
+mod skipping;
 
 use harness::lines::{char_in, int_in};
 use harness::numbers::{classify, decode, palette};

@@ -101,7 +101,8 @@ fn record(kind: u16, body: &[u8]) -> Vec<u8> {
 fn all() -> Vec<Vec<u8>> {
     let palette = palette();
     let of_question = |q: &Question| written(&asked(q, &palette));
-    let mut all: Vec<Vec<u8>> = jobs::jobs().iter().chain(&full()).map(of_question).collect();
+    let mut all: Vec<Vec<u8>> =
+        jobs::for_the_run_program().iter().chain(&full()).map(of_question).collect();
     all.extend(by_sides().iter().map(written));
     all.extend(cut_and_changed());
     all.retain(|job| printed(job).is_ok());

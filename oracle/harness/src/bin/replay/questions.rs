@@ -30,6 +30,7 @@ fn questions() -> Vec<Vec<u8>> {
     all.extend(sequences());
     all.extend(cut_sequences());
     all.extend(long_lines());
+    all.extend(mistakable());
     all
 }
 
@@ -182,4 +183,39 @@ fn long_lines() -> Vec<Vec<u8>> {
         vec![b'9'; full],
         "\u{3000}".repeat(full / 3).into(),
     ]
+}
+
+/// Lines that are skipped for another reason than a hasty reader would name, or are not skipped at all.
+fn mistakable() -> Vec<Vec<u8>> {
+    const ZEROS: &str = "0000000000000000000000000000";
+    const DIGITS: &str = "123456789012345678901234567890";
+    let large_and_spoiled = [
+        "9223372036854775808x\n",
+        "-9223372036854775809x\n",
+        "9223372036854775808 x\n",
+        "9223372036854775808-",
+        &format!("{DIGITS}x\n"),
+        &format!("{DIGITS} 1\n"),
+        &format!("-{DIGITS}\u{FF15}\n"),
+    ];
+    let large = [
+        "9223372036854775808 ",
+        "\u{3000}-9223372036854775809\u{3000}\r\n",
+        &format!("{DIGITS}\n"),
+        &format!("-{DIGITS}"),
+    ];
+    let zeros = [
+        &format!("{ZEROS}5\n"),
+        &format!("+{ZEROS}\n"),
+        "-0009223372036854775808\n",
+        "-0009223372036854775809\n",
+        "0009223372036854775807\n",
+        "0009223372036854775808\n",
+    ];
+    let blank = [" \r\n", "\u{3000}\n", "\u{3000}\r\n", "\r\n5\n", "  ", " \u{3000}\t"];
+    let no_digits = ["1 2\n", "- 5", "+-5", "+\r\n", " - \n"];
+    let bad: [&[u8]; 4] =
+        [b"99999999999999999999\xFF\n", b"9223372036854775808 \xFF", b" \xFF\n", b"x\xFF\n"];
+    let good = [&large_and_spoiled[..], &large, &zeros, &blank, &no_digits].concat();
+    good.into_iter().map(str::as_bytes).chain(bad).map(Vec::from).collect()
 }
