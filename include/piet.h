@@ -131,9 +131,9 @@ enum piet_status {
 
 /*
  * The cells of a run's answer. The four SKIPPED count the steps at which IntIn skipped its line, by the reason. White
- * space is taken off both ends of the line; what is left is a number where it is a sign or none and one or more digits
- * 0 to 9. Only steps that are taken count, so that the four together are at most the steps. In abstract mode nothing is
- * read, and nothing counts.
+ * space, Unicode's (U+3000 too), is taken off both ends of the line; what is left is a number where it is a sign or none
+ * and one or more digits 0 to 9. Only steps that are taken count, so that the four together are at most the steps: a line
+ * that is not UTF-8 is PIET_BAD_INPUT and counts nothing. In abstract mode nothing is read, and nothing counts.
  */
 enum piet_run_cell {
     PIET_RUN_STATUS = 0,                /* enum piet_status */
@@ -257,8 +257,8 @@ uint32_t piet_determine_runs_forever(size_t n,
  *   stack            the stack, of any length, 0 included; on return cell 0 is the bottom
  *   kinds, values    the outputs in order, enum piet_kind and the value; the shorter of the two is the room, which
  *                    may be 0
- *   answer           12 cells, in the order of enum piet_run_cell: where and why the run stopped, and how many lines
- *                    IntIn skipped for which reason
+ *   answer           12 cells, in the order of enum piet_run_cell: where and why the run stopped, how much it left and
+ *                    read, and how many lines IntIn skipped for which reason
  *
  * All cells of stack, kinds and values past the depth or the count of outputs, each slice to its end, become 0.
  *

@@ -1,13 +1,14 @@
 -- A call's answer, by whether the table is refused.
 --     run-refuses, run-finishes    what `run` answers and leaves is its outcome
 --     refuses, finishes            and the other way round: what its outcome says
+--     result-cells                 a result has as many numbers as its cells say
 --     forever-refuses, forever-is  the answer of `determine_runs_forever`
 -- Assumes nothing.
 use mathlib.Core.Path.{_≡_, refl, sym, ap, ap₂, _∙_}
 use mathlib.Core.Bool.{Bool, true, false, cond}
 use mathlib.Core.List.{List, [], _∷_}
 use Prim.Native.Nat.{ℕ}
-use lib.ListN.{getD}
+use lib.ListN.{length, getD}
 use native.Mathlib.Omega.{arith}
 use borrow.Author.Tests.{not-true, not-false}
 use Rattle.base.specs.Numbers.{Numbers, numbers, row, first, unlessRefused, valuesOf, numberOf}
@@ -24,7 +25,10 @@ use Rattle.interpreter.specs.declared.Forever.{Forever}
 use Rattle.interpreter.specs.declared.Forever.the-variants as Verdict
 use Rattle.interpreter.specs.Table.{wrongTable, validOf, every}
 use Rattle.interpreter.specs.Forever as Always
-use Rattle.interpreter.specs.Outcome.{slicesOf, endedOf, resultOf, refused, numbered, endOf, Outcome}
+use Rattle.interpreter.specs.Outcome.{slicesOf, endedOf, resultOf, resultCells, refused, numbered, endOf, Outcome}
+
+pub result-cells : (e : Ended) → length (resultOf e) ≡ resultCells
+result-cells e = refl
 
 status-some : (s : Stop) → statusOf s ≡ 0 → ⊥
 unfolding statusOf

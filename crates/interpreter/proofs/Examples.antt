@@ -11,7 +11,7 @@ use Rattle.text.specs.Line.{lineLength}
 use Rattle.text.specs.Input.{intOf, pushOrSkip}
 use Rattle.text.specs.Reading.{chars, same, valid, takeOf}
 use Rattle.stack.specs.Instr.{pop}
-use Rattle.machine.specs.Skips.{place, one, oneMore, counted}
+use Rattle.machine.specs.Counts.{indexOf, one, oneMore, counted}
 use Rattle.machine.specs.Machine.{Given, given, statusOf, take, read, exec, fitting}
 use Rattle.machine.specs.Held.{Slices, slices}
 use Rattle.interpreter.specs.Table.{openFrom, any, every}
@@ -26,7 +26,7 @@ rows = 12 ∷ 1 ∷ 0 ∷ 0 ∷ 1 ∷ 6 ∷ 1 ∷ 0 ∷ 1 ∷ 1 ∷ []
 abbrev exits : List ℕ
 exits = 524290 ∷ 589826 ∷ 0 ∷ 0 ∷ 0 ∷ 0 ∷ 0 ∷ 0 ∷ 0 ∷ 0 ∷ 0 ∷ 0 ∷ 1310721 ∷ 1376257 ∷ 0 ∷ 0 ∷ []
 
--- an answer of eight numbers, and no number line skipped
+-- the numbers before the counts, and no line skipped
 abbrev told : List ℕ → Numbers
 told values = numbers 0 (values ++ (0 ∷ 0 ∷ 0 ∷ 0 ∷ []))
 
@@ -90,7 +90,7 @@ in-order = (refl, refl)
 
 -- the same exit not in abstract mode, at the end of the input: a skipped line, counted by its reason
 pub at-end : two 8388610 5 false .0 ≡ numbers 0 (1 ∷ 1 ∷ 1 ∷ 0 ∷ 0 ∷ 0 ∷ 0 ∷ 0 ∷ 1 ∷ 0 ∷ 0 ∷ 0 ∷ [])
-unfolding attemptOf scalars encodes lineLength intOf pushOrSkip chars same valid takeOf place one oneMore counted statusOf take read exec fitting openFrom any arrive after runOf first
+unfolding attemptOf scalars encodes lineLength intOf pushOrSkip chars same valid takeOf indexOf one oneMore counted statusOf take read exec fitting openFrom any arrive after runOf first
 at-end = refl
 
 -- the exit 524,290 to the second with Push: the size of the block just left

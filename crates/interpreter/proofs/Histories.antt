@@ -20,7 +20,7 @@ use Rattle.base.proofs.Clash.{clash}
 use Rattle.machine.specs.declared.Stop.{Stop}
 use Rattle.machine.specs.declared.Stop.the-variants.{Completed, MaxSteps, NeedsInput}
 use Rattle.text.specs.declared.number.Reason.{Reason}
-use Rattle.machine.specs.Skips.{countOf, total, times}
+use Rattle.machine.specs.Counts.{countOf, total, times}
 use Rattle.machine.specs.Machine.{underLimit, Out, keeps, stops, fitting, withPointers}
 use Rattle.machine.specs.Skipped.{skipped}
 use Rattle.machine.specs.Place.{Machine, start}

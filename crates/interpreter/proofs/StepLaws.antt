@@ -14,7 +14,7 @@ use Rattle.machine.specs.declared.Done.the-variants.{Kept, Stops}
 use Rattle.machine.specs.declared.Stop.{Stop}
 use Rattle.machine.specs.declared.Stop.the-variants.{NeedsInput, Completed}
 use Rattle.machine.specs.Machine.{Given, exec}
-use Rattle.machine.specs.Skips.{total}
+use Rattle.machine.specs.Counts.{total}
 use Rattle.machine.specs.Held.{Slices, roomOf, storeOf, Stands, outOf, After as Left, Execs, atPointers}
 use Rattle.machine.proofs.Fitting.{fit-kept}
 use Rattle.machine.proofs.Skipping.{exec-total}

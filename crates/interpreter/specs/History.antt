@@ -8,7 +8,7 @@ use lib.ListN.{length}
 use Rattle.table.specs.ExitNumber.{targetOf}
 use Rattle.text.specs.declared.number.Reason.{Reason}
 use Rattle.machine.specs.declared.Stop.the-variants.{MaxSteps}
-use Rattle.machine.specs.Skips.{countOf, times}
+use Rattle.machine.specs.Counts.{countOf, times}
 use Rattle.machine.specs.Skipped.{skipped}
 use Rattle.machine.specs.Place.{Machine, End}
 use Rattle.interpreter.specs.Table.{opOf}
@@ -25,14 +25,13 @@ module _ (j : Job) where
   reasonsOf stays = []
   reasonsOf (passes {m = m} step rest) = skipped (j .given) (opOf (exitFrom j m)) (m .store) ++ reasonsOf rest
 
-  -- a run of at most k steps from m ends in e: by these exits, which are as many as the steps made, and for the reason
-  -- reported: all k steps were made, or the next one halts. Of each reason as many number lines more are counted as its steps
-  -- skipped for it
+  -- a run of at most k steps from m ends in e: by these exits, which are as many as the steps made, and as is reported: all
+  -- k steps were made, or the next one halts. Of each reason to skip a line as many more are counted as its steps skipped for it
   pub record History (k : ℕ) (m : Machine) (e : End) : Type 0 where
     pub exits : List ℕ
     pub passes : Passes m exits (e .at)
     pub counted : e .at .steps ≡ m .steps + length exits
-    pub skips : (why : Reason) → countOf why (e .at .store .reading .skips) ≡ countOf why (m .store .reading .skips) + times why (reasonsOf passes)
+    pub skips : (reason : Reason) → countOf reason (e .at .store .reading .skips) ≡ countOf reason (m .store .reading .skips) + times reason (reasonsOf passes)
     pub within : length exits ≤ k
     pub why : ((e .stop ≡ MaxSteps) × (length exits ≡ k)) ⊎ ((stepOf j (e .at) ≡ halts (e .stop)) × (length exits < k))
 

@@ -7,7 +7,7 @@ use lib.IntN.{ℤ, pos}
 use Rattle.base.specs.Numbers.{Numbers, numbers, Row, row, first, unlessRefused}
 use Rattle.machine.specs.declared.Core.{Core}
 use Rattle.machine.specs.Output.{Emit}
-use Rattle.machine.specs.Skips.{countsOf}
+use Rattle.machine.specs.Counts.{countsOf}
 use Rattle.machine.specs.Machine.{Given, Store, statusOf}
 use Rattle.machine.specs.Place.{Machine, End}
 use Rattle.machine.specs.Held.{Slices, slices, roomOf}

@@ -2,7 +2,7 @@
 use mathlib.Core.Path.{_≡_}
 use mathlib.Core.List.{List}
 use Prim.Native.Nat.{ℕ, _-_, _<_, _≤_}
-use Rattle.machine.specs.Skips.{total}
+use Rattle.machine.specs.Counts.{total}
 use Rattle.machine.specs.Machine.{Given}
 use Rattle.machine.specs.Place.{Machine, End}
 use Rattle.machine.specs.Held.{Slices, storeOf, Stands}

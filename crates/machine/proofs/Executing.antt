@@ -26,7 +26,7 @@ use Rattle.machine.specs.declared.Stop.the-variants.{BadInput}
 use Rattle.machine.specs.declared.output.Wrote.{Wrote}
 use Rattle.machine.specs.declared.output.Wrote.the-variants as Write
 use Rattle.machine.specs.Output.{Emit, outsOf, ofTop, Puts}
-use Rattle.machine.specs.Skips.{counted}
+use Rattle.machine.specs.Counts.{counted}
 use Rattle.machine.specs.Machine.{Given, RunRoom, Store, Effect, does, keeps, withStack, withPointers, withOuts, withUsed, onStack, byTop, turn, write, take, takeNumber, read, fitting}
 use Rattle.machine.specs.Held.{slices, roomOf, storeOf, Stands, outOf, After, Execs, StackExecs, atDepth, atOutputs, atUsed, atPointers, atWait, atSkips, grownOf, wroteOf}
 use Rattle.machine.proofs.Emitting.{outs-length}

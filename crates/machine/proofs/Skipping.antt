@@ -2,37 +2,52 @@
 --     exec-counts      each is what it was, and one more where the instruction skipped a line for its reason
 --     exec-total       their sum grows by at most one
 --     times-append     reasons counted over two lists
+--     skipped-means    a line that is skipped for a reason means it
+--     range-same       the range of a number line is that of the values (rule 9.10)
 --     skipped-same     which line is skipped does not depend on the pointers
 -- Assumes nothing.
-use mathlib.Core.Path.{_≡_, refl, subst}
+use mathlib.Core.Path.{_≡_, refl, ap, subst, _∙_}
 use mathlib.Core.Bool.{Bool, true, false, cond}
+use mathlib.Core.Logic.{_↔_}
 use mathlib.Core.List.{List, [], _∷_, _++_}
-use Prim.Native.Nat.{ℕ, _+_, _≤_}
+use Prim.Native.Nat.{ℕ, _+_, _^_, _<_, _≤_}
 use native.Mathlib.Omega.{arith}
+use borrow.Author.Tests.{lt-ltb, ltb-true}
+use lib.IntN.{ℤ, pos, negsuc}
+use lib.Signed.{mag}
+use Rattle.base.proofs.Clash.{clash}
+use Rattle.word.specs.Word.{wrap}
+use Rattle.word.proofs.Wrapping.{wrap-fits, wrap-range}
 use Rattle.flow.specs.declared.PointerState.{PointerState}
+use Rattle.text.specs.declared.number.Number.the-variants.{Skipped}
 use Rattle.text.specs.declared.number.Reason.{Reason}
 use Rattle.text.specs.declared.number.Reason.the-variants.{Ended, Blank, NotNumber, OutOfRange}
 use Rattle.text.specs.declared.input.Taken.{Taken}
 use Rattle.text.specs.declared.input.Taken.the-variants as Line
+use Rattle.text.specs.Utf8.{Utf8}
+use Rattle.text.specs.Line.{lineAt}
+use Rattle.text.specs.Number.{inRange}
+use Rattle.text.specs.Means.{Means}
 use Rattle.text.specs.Input.{charOf, intOf}
 use Rattle.text.specs.Reading.{takeOf}
+use Rattle.text.proofs.Meaning.{skip-means}
 use Rattle.machine.specs.declared.Op.{Op}
 use Rattle.machine.specs.declared.Op.the-variants.{Nothing, Push, Pop, Pair, Not, Ptr, Swi, Dup, Roll, CharIn, CharOut, IntIn, IntOut}
 use Rattle.machine.specs.declared.Skips.{Skips}
-use Rattle.machine.specs.Skips.{place, countOf, total, one, oneMore, counted, times}
+use Rattle.machine.specs.Counts.{indexOf, countOf, total, one, oneMore, counted, times}
 use Rattle.machine.specs.Machine.{Given, Store, Effect, does, bad-input, turn, write, take, takeNumber, read, exec, withPointers, waiting}
 use Rattle.machine.specs.Skipped.{reasonIn, skipped}
 
 -- one more of a reason, as each count shows it, and in all
 more-counts : (w why : Reason) (s : Skips) → countOf why (oneMore w s) ≡ countOf why s + one w why
-unfolding place oneMore
+unfolding indexOf oneMore
 more-counts w Ended s = refl
 more-counts w Blank s = refl
 more-counts w NotNumber s = refl
 more-counts w OutOfRange s = refl
 
 more-total : (w : Reason) (s : Skips) → total (oneMore w s) ≡ total s + 1
-unfolding place one oneMore
+unfolding indexOf one oneMore
 more-total Ended s = omega arith
 more-total Blank s = omega arith
 more-total NotNumber s = omega arith
@@ -106,6 +121,32 @@ pub times-append : (why : Reason) (ws vs : List Reason) → times why (ws ++ vs)
 unfolding times
 times-append why [] vs = omega arith
 times-append why (w ∷ ws) vs = omega (arith, times-append why ws vs)
+
+pub skipped-means : (g : Given) (m : Store) (why : Reason) → skipped g IntIn m ≡ why ∷ []
+    → (cs : List ℕ) × Utf8 (lineAt (g .input) (m .reading .used)) cs × Means cs (Skipped why)
+unfolding skipped reasonIn
+skipped-means g m why = go (g .terms .«abstract_mode»)
+  where
+    line : Taken
+    line = takeOf intOf (g .input) (m .reading .used)
+
+    by-line : (t : Taken) → line ≡ t → reasonIn t ≡ why ∷ []
+        → (cs : List ℕ) × Utf8 (lineAt (g .input) (m .reading .used)) cs × Means cs (Skipped why)
+    by-line (Line.Push v n) q e = clash cc
+    by-line (Line.Skip n w) q e =
+        let z : w ≡ why = cc in
+        skip-means (g .input) (m .reading .used) n why (q ∙ ap (Line.Skip n) z)
+    by-line Line.BadInput q e = clash cc
+
+    go : (t : Bool) → cond t [] (reasonIn line) ≡ why ∷ []
+        → (cs : List ℕ) × Utf8 (lineAt (g .input) (m .reading .used)) cs × Means cs (Skipped why)
+    go true e = clash cc
+    go false e = by-line line refl e
+
+pub range-same : (z : ℤ) → (inRange z ≡ true) ↔ (wrap z ≡ z)
+unfolding inRange
+range-same (pos n) = (λ h. wrap-fits (pos n) (record { sfits = ltb-true n (2 ^ 63) h }), λ e. lt-ltb n (2 ^ 63) (subst (λ (y : ℤ). mag y < 2 ^ 63) e (wrap-range (pos n))))
+range-same (negsuc n) = (λ h. wrap-fits (negsuc n) (record { sfits = ltb-true n (2 ^ 63) h }), λ e. lt-ltb n (2 ^ 63) (subst (λ (y : ℤ). mag y < 2 ^ 63) e (wrap-range (negsuc n))))
 
 pub skipped-same : (g : Given) (op : Op) (u : PointerState) (m : Store) → skipped g op (withPointers u m) ≡ skipped g op m
 unfolding skipped

@@ -1,7 +1,7 @@
 -- What the code holds of a store: numbers in a `Core`, the stack and the outputs in three lent slices. Assumes nothing.
 use mathlib.Core.Path.{_≡_}
 use mathlib.Core.List.{List}
-use Prim.Native.Nat.{ℕ, min, _+_, _^_, _<_}
+use Prim.Native.Nat.{ℕ, min}
 use lib.ListN.{length}
 use lib.IntN.{ℤ}
 use Rattle.flow.specs.declared.PointerState.{PointerState}
@@ -18,7 +18,6 @@ use Rattle.machine.specs.declared.Stop.the-variants.{StackFull, OutputFu
 use Rattle.machine.specs.declared.output.Wrote.{Wrote}
 use Rattle.machine.specs.declared.output.Wrote.the-variants as Write
 use Rattle.machine.specs.Output.{outsOf, Holds}
-use Rattle.machine.specs.Skips.{total}
 use Rattle.machine.specs.Machine.{RunRoom, usedTo, waitsFor, skipsTo, Store, Effect, Out, keeps, stops, fitting}
 
 -- the three lent slices
@@ -48,10 +47,6 @@ pub record Stands (l : Slices) (at : Core) : Type 0 where
   pub lies : Lies (l .stack) (at .depth)
   pub holds : Holds (l .kinds) (l .values) (at .outputs)
   pub valid : Valid (at .pointers)
-
--- one line more can be counted in 64 bits
-abbrev pub Countable : Core → Type 0
-Countable at = total (at .reading .skips) + 1 < 2 ^ 64
 
 -- what an answer with the slices after it says
 unfoldable pub outOf : Slices → Done → Out

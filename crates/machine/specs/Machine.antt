@@ -22,7 +22,7 @@ use Rattle.machine.specs.declared.Skips.{Skips}
 use Rattle.machine.specs.declared.Stop.{Stop}
 use Rattle.machine.specs.declared.Stop.the-variants.{Completed, MaxSteps, NeedsInput, StackFull, OutputFull, BadInput}
 use Rattle.machine.specs.Output.{Emit, ofTop, charOut, intOut}
-use Rattle.machine.specs.Skips.{counted}
+use Rattle.machine.specs.Counts.{counted}
 
 -- the instructions by number (rule 1.5)
 abbrev pub ops : List Op

@@ -4,7 +4,7 @@ use mathlib.Core.List.{[]}
 use Prim.Native.Nat.{ℕ}
 use Rattle.flow.specs.Pointer.{startState}
 use Rattle.machine.specs.declared.Stop.{Stop}
-use Rattle.machine.specs.Skips.{noSkips}
+use Rattle.machine.specs.Counts.{noSkips}
 use Rattle.machine.specs.Machine.{Store}
 
 -- the region, the steps made, and what the instructions work on

@@ -8,13 +8,12 @@ use stack::Pairing;
 use text::input::Taken;
 use text::number::Reason;
 ghost use mathlib.Core.Path.{_≡_};
-ghost use Prim.Native.Nat.{_+_, _^_, _<_};
 ghost use Rattle.flow.specs.Pointer.{Valid, rotated, switched};
 ghost use Rattle.text.specs.Input.{charOf, intOf};
 ghost use Rattle.stack.specs.Stack.{Lies};
-ghost use Rattle.machine.specs.Skips.{total, oneMore, counted};
+ghost use Rattle.machine.specs.Counts.{Countable, oneMore, counted};
 ghost use Rattle.machine.specs.Machine.{given, exec, take, takeNumber, turn, read, opNumbered, statusOf};
-ghost use Rattle.machine.specs.Held.{slices, Stands, Countable, Execs, StackExecs, atDepth, atOutputs, atUsed, atPointers, atWait, atSkips, grownOf, wroteOf};
+ghost use Rattle.machine.specs.Held.{slices, Stands, Execs, StackExecs, atDepth, atOutputs, atUsed, atPointers, atWait, atSkips, grownOf, wroteOf};
 
 // The instructions; Nothing is what a slide's or a black region's exit carries.
 pub enum Op {
@@ -80,7 +79,7 @@ pub enum Done {
 
 impl Skips {
     fn one_more(mut self, why: Reason) -> Skips
-        requires { ⌜ total self + 1 < 2 ^ 64 ⌝ }
+        requires { ⌜ Countable self ⌝ }
         ensures { λ r. ⌜ r ≡ oneMore why self ⌝ }
     {
         match why {
@@ -102,7 +101,7 @@ impl Skips {
 
     // The counts after a number line was taken.
     fn after(self, taken: Taken) -> Skips
-        requires { ⌜ total self + 1 < 2 ^ 64 ⌝ }
+        requires { ⌜ Countable self ⌝ }
         ensures { λ r. ⌜ r ≡ counted taken self ⌝ }
     {
         match taken {
@@ -286,7 +285,7 @@ fn char_in(terms: Terms, input: &[u8], stack: &mut [i64], at: Core) -> Done
 fn int_in(terms: Terms, input: &[u8], stack: &mut [i64], at: Core) -> Done
     requires { ⌜ Lies (now stack) (at .depth) ⌝ }
     requires { ⌜ Valid (at .pointers) ⌝ }
-    requires { ⌜ Countable at ⌝ }
+    requires { ⌜ Countable (at .reading .skips) ⌝ }
     ensures { λ r. ⌜ StackExecs (read (given terms (now (input .entry))) intOf takeNumber) (now (stack .entry)) at (now (stack .exit)) r ⌝ }
 {
     if terms.abstract_mode {
@@ -310,7 +309,7 @@ pub fn exec(
     at: Core,
 ) -> Done
     requires { ⌜ Stands (slices (now stack) (now kinds) (now values)) at ⌝ }
-    requires { ⌜ Countable at ⌝ }
+    requires { ⌜ Countable (at .reading .skips) ⌝ }
     ensures { λ r. ⌜ Execs (exec (given terms (now (input .entry))) size op) (slices (now (stack .entry)) (now (kinds .entry)) (now (values .entry))) at (slices (now (stack .exit)) (now (kinds .exit)) (now (values .exit))) r ⌝ }
 {
     let d = at.depth;

@@ -27,7 +27,7 @@ use Rattle.text.specs.Reading.{takeOf}
 use Rattle.machine.specs.declared.Stop.{Stop}
 use Rattle.machine.specs.declared.Stop.the-variants.{Completed, MaxSteps, NeedsInput}
 use Rattle.machine.specs.Machine.{Given, RunRoom, Store, Effect, does, bad-input, keeps, stops, opNumbered, exec, withPointers, byTop, turn, write, take, takeNumber, read}
-use Rattle.machine.specs.Skips.{place, countOf, total, noSkips, times}
+use Rattle.machine.specs.Counts.{indexOf, countOf, total, noSkips, times}
 use Rattle.machine.specs.Skipped.{skipped}
 use Rattle.machine.specs.Place.{Machine, End, start}
 use Rattle.machine.specs.declared.Op.{Op}
@@ -103,7 +103,7 @@ keeps-valid p map g room r u i m h v = subst Holds (fit-kept room _ h) (executin
 -- ---- what a walk counts
 
 none-of : (why : Reason) → countOf why noSkips ≡ 0
-unfolding place
+unfolding indexOf
 none-of Ended = refl
 none-of Blank = refl
 none-of NotNumber = refl

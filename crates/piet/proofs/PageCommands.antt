@@ -30,7 +30,7 @@ use Rattle.stack.specs.Instr as Instr
 use Rattle.machine.specs.declared.Op.{Op}
 use Rattle.machine.specs.declared.Op.the-variants.{Nothing, Push, Pop, Pair, Not, Ptr, Swi, Dup, Roll, CharIn, CharOut, IntIn, IntOut}
 use Rattle.machine.specs.Output.{Emit, ofTop, char}
-use Rattle.machine.specs.Skips.{oneMore, counted}
+use Rattle.machine.specs.Counts.{oneMore, counted}
 use Rattle.machine.specs.Machine.{Given, RunRoom, Store, does, exec, fitting, turn, write, byTop, read, take, withStack, withPointers, withOuts, withUsed, withSkips}
 use Rattle.base.proofs.Clash.{clash}
 use Rattle.piet.specs.Follows.{doing}

@@ -11,7 +11,7 @@ use Rattle.text.specs.declared.number.Reason.{Reason}
 use Rattle.machine.specs.declared.Stop.{Stop}
 use Rattle.machine.specs.declared.Stop.the-variants.{Completed, MaxSteps, NeedsInput}
 use Rattle.machine.specs.Machine.{Given, RunRoom, Store, Out, keeps, stops, opNumbered, exec, withPointers, fitting}
-use Rattle.machine.specs.Skips.{countOf, times}
+use Rattle.machine.specs.Counts.{countOf, times}
 use Rattle.machine.specs.Skipped.{skipped}
 use Rattle.machine.specs.Place.{start, End}
 use Rattle.piet.specs.Moves.{FirstOpen, NoneOpen}
@@ -59,9 +59,9 @@ module _ (p : Picture) (map : List ℕ) (g : Given) (room : RunRoom) where
   limit = g .terms .limit
 
   -- A run of a picture under its limit ends in e: there is a history that leads to the region and the store reported, its
-  -- pointers included; its length is the steps reported; of each reason as many skipped lines are reported as its moves skipped
-  -- for it; and it stops for the reason reported and for no other: the limit is
-  -- reached (rule 11.2); below it input is awaited (11.3); or no attempt is open (11.1); else the next move can't be kept.
+  -- pointers included; its length is the steps reported; of each reason to skip a line as many are reported as its moves
+  -- skipped for it; and it stops as is reported and not otherwise: the limit is reached (rule 11.2); below it input is awaited
+  -- (11.3); or no attempt is open (11.1); else the next move can't be kept.
   pub record Follows (e : End) : Type 0 where
     pub history : List Move
     pub walk : Walk history (e .at .region) (e .at .store)

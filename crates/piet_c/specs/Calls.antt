@@ -58,10 +58,11 @@ ForeverCall n rows exits k u = (r : Forever) × (always.numbered r ≡ k) × (al
 abbrev pub padded : ℕ → Numbers → Numbers
 padded cells (numbers n values) = numbers n (values ++ replicate (cells - length values) 0)
 
--- the run's values and the count of regions (rule 8.5); or the place of an unknown pixel and zeros (rule 12.1)
+-- a run's cells, and one for the count of regions
 abbrev pub pictureCells : ℕ
 pictureCells = running.resultCells + 1
 
+-- the run's values and the count of regions (rule 8.5); or the place of an unknown pixel and zeros (rule 12.1)
 abbrev pub PictureCall : Asked → Lends → Numbers → Lends → Type 0
 PictureCall a l n l′ = (r : Pictured) × (padded pictureCells (picturing.numbered r) ≡ n) × picturing.Outcome a l r l′
 

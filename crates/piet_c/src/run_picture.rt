@@ -8,6 +8,7 @@ ghost use Rattle.machine.specs.Machine.{given};
 ghost use Rattle.piet.specs.RunPicture.{asked, lends, numbered};
 ghost use Rattle.piet_c.specs.Exported.{Exported};
 ghost use Rattle.piet_c.specs.Calls.{pictureCells, padded, PictureCall};
+use crate::RUN_ANSWER;
 use crate::put_ended;
 use crate::put_two;
 use base::fill::fill_u64;
@@ -16,7 +17,7 @@ use piet::run_picture::Pictured;
 use piet::run_picture::run_picture;
 
 // The cells of a picture's answer: a run's, and the count of regions.
-const PICTURE_ANSWER: usize = 13;
+const PICTURE_ANSWER: usize = RUN_ANSWER + 1;
 
 // Writes the values of a picture's run, and gives the number: the run's and the count of regions, or the place of an
 // unknown pixel and zeros.
@@ -27,7 +28,7 @@ fn put_pictured(answer: &mut [u64], r: Pictured) -> u32
     match r {
         Pictured::Finished { ended, regions } => {
             put_ended(answer, ended);
-            answer[12] = regions as u64;
+            answer[RUN_ANSWER] = regions as u64;
             0
         }
         Pictured::Refused {
@@ -42,8 +43,8 @@ fn put_pictured(answer: &mut [u64], r: Pictured) -> u32
     }
 }
 
-// A run of a picture; answer: the twelve values of `piet_run`, the count of regions; or row, column of the first pixel that is
-// not in the table.
+// A run of a picture; answer: the values of `piet_run`, the count of regions; or row, column of the first pixel that is not in
+// the table.
 #[no_mangle]
 pub extern "C" fn piet_run_picture(
     pixels: &[u8],

@@ -1,4 +1,4 @@
-// Replays stored answers of Rust's text functions: `stdin` holds inputs, each a byte for its length and so many bytes;
+// Replays stored answers of Rust's text functions, with a model's reasons for skipped lines: `stdin` holds inputs, each a byte for its length and so many bytes;
 // `stdout` has a line for each, `c A n i B m`: what CharIn and IntIn take of it, the value pushed, `b` where the line is not
 // UTF-8, or that the step is skipped, each with the bytes consumed. A skipped CharIn is `s`, a skipped IntIn the letter of its
 // reason: `e` no byte is left, `w` white space alone, `n` not a number, `o` out of range.

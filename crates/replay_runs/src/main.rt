@@ -1,4 +1,4 @@
-// Replays stored runs of the Rust: `stdin` holds questions, each a picture, then the limit in four bytes, the mode, the
+// Replays stored runs of the Rust, with a model's counts of skipped lines: `stdin` holds questions, each a picture, then the limit in four bytes, the mode, the
 // stack's room, the output's room and the input's length, a byte each, and the input; `stdout` has a line for each: the
 // run's twelve numbers, the stack from its top, and a kind and a value for each output.
 ghost use Prim.Native.Nat.{_≤_};

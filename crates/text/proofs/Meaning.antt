@@ -1,8 +1,10 @@
--- A line is one of five things to IntIn, a number or one of the four reasons to skip it (rules 10.3, 10.8), and `intOf` tells which.
+-- A line that is UTF-8 is one of five things to IntIn, a number or one of the four reasons to skip it (rules 10.3, 10.8), and
+-- `intOf` tells which.
 --     means                each line is the one of the five that `intOf` tells
 --     means-only           no line is two of them
 --     says-only            a text says one number
 --     nothing-left         a line has no characters exactly where no byte is left
+--     skip-means           where a line is skipped for a reason, it is one that means it
 -- Assumes nothing.
 use Prim.Native.Nat.{ℕ, _≤_}
 use mathlib.Core.Path.{_≡_, refl, sym, ap, _∙_, subst}
@@ -21,15 +23,19 @@ use Rattle.text.specs.Line.{lineAt, lineEnd}
 use Rattle.text.specs.Utf8.{encodes, Utf8}
 use Rattle.text.specs.White.{trimStart}
 use Rattle.text.specs.Number.{inRange, ranged, signed, opposite, parsed}
-use Rattle.text.specs.Input.{intOf}
-use Rattle.text.specs.Means.{Says, bare, plus, minus, left, Means}
+use Rattle.text.specs.Input.{intOf, pushOrSkip, Takes, reads, bad}
+use Rattle.text.specs.Reading.{takeOf}
+use Rattle.text.specs.Means.{Says, bare, plus, minus, remains, Means}
 use Rattle.text.specs.declared.number.Number.{Number}
 use Rattle.text.specs.declared.number.Number.the-variants.{Value, Skipped}
+use Rattle.text.specs.declared.number.Reason.{Reason}
 use Rattle.text.specs.declared.number.Reason.the-variants.{Ended, Blank, NotNumber, OutOfRange}
+use Rattle.text.specs.declared.input.Taken.the-variants.{Skip}
 use Rattle.text.proofs.Utf8Laws.{utf8-none, utf8-unique}
 use Rattle.text.proofs.LineLaws.{line-none, line-some, line-part}
 use Rattle.text.proofs.NumberLaws.{no-form, in-form, in-range, out-of-range}
 use Rattle.text.proofs.InputLaws.{some-char}
+use Rattle.text.proofs.ReadingLaws.{takes-of}
 
 -- ---- a text by its first byte: its sign, its digits, and the number that they make
 signOf : List ℕ → ℕ → ℤ
@@ -111,15 +117,15 @@ none-parsed l h f = by-parts l h ∙ go (numeral (digitsOf l)) refl
     go false e = no-form (signOf l) (digitsOf l) e
 
 -- ---- a line
-int-left : (cs : List ℕ) → (left cs ≡ [] → ⊥) → intOf cs ≡ parsed (left cs)
+int-left : (cs : List ℕ) → (remains cs ≡ [] → ⊥) → intOf cs ≡ parsed (remains cs)
 unfolding encodes trimStart intOf
 int-left [] h = absurd (h refl)
 int-left (c ∷ cs) h = refl
 
-int-says : (cs : List ℕ) (z : ℤ) → Says (left cs) z → intOf cs ≡ ranged z
-int-says cs z s = int-left cs (says-some (left cs) z s) ∙ says-parsed (left cs) z s
+int-says : (cs : List ℕ) (z : ℤ) → Says (remains cs) z → intOf cs ≡ ranged z
+int-says cs z s = int-left cs (says-some (remains cs) z s) ∙ says-parsed (remains cs) z s
 
-int-blank : (cs : List ℕ) → (cs ≡ [] → ⊥) → left cs ≡ [] → intOf cs ≡ Skipped Blank
+int-blank : (cs : List ℕ) → (cs ≡ [] → ⊥) → remains cs ≡ [] → intOf cs ≡ Skipped Blank
 unfolding parsed intOf
 int-blank [] h e = absurd (h refl)
 int-blank (c ∷ cs) h e = rw e
@@ -129,7 +135,7 @@ unfolding intOf Means
 means-is cs (Value z) (s, r) = int-says cs z s ∙ in-range z r
 means-is cs (Skipped Ended) e = rw e
 means-is cs (Skipped Blank) (h, e) = int-blank cs h e
-means-is cs (Skipped NotNumber) (h, f) = int-left cs h ∙ none-parsed (left cs) h f
+means-is cs (Skipped NotNumber) (h, f) = int-left cs h ∙ none-parsed (remains cs) h f
 means-is cs (Skipped OutOfRange) (z, s, r) = int-says cs z s ∙ out-of-range z r
 
 pub means-only : (cs : List ℕ) (a b : Number) → Means cs a → Means cs b → a ≡ b
@@ -139,22 +145,22 @@ means-only cs a b p q = sym (means-is cs a p) ∙ means-is cs b q
 one-of : (cs : List ℕ) → (a : Number) × Means cs a
 unfolding Means
 one-of [] = (Skipped Ended, refl)
-one-of (c ∷ cs) = by-left (left (c ∷ cs)) refl
+one-of (c ∷ cs) = by-left (remains (c ∷ cs)) refl
   where
     line : List ℕ
     line = c ∷ cs
 
-    by-range : (z : ℤ) → Says (left line) z → (t : Bool) → inRange z ≡ t → (a : Number) × Means line a
+    by-range : (z : ℤ) → Says (remains line) z → (t : Bool) → inRange z ≡ t → (a : Number) × Means line a
     by-range z s true r = (Value z, (s, r))
     by-range z s false r = (Skipped OutOfRange, (z, s, r))
 
-    by-form : (left line ≡ [] → ⊥) → (t : Bool) → numeral (digitsOf (left line)) ≡ t → (a : Number) × Means line a
-    by-form h true n = let z = number (left line) in by-range z (says-of (left line) n) (inRange z) refl
-    by-form h false n = (Skipped NotNumber, (h, λ z s. true≢false (sym (says-is (left line) z s .0) ∙ n)))
+    by-form : (remains line ≡ [] → ⊥) → (t : Bool) → numeral (digitsOf (remains line)) ≡ t → (a : Number) × Means line a
+    by-form h true n = let z = number (remains line) in by-range z (says-of (remains line) n) (inRange z) refl
+    by-form h false n = (Skipped NotNumber, (h, λ z s. true≢false (sym (says-is (remains line) z s .0) ∙ n)))
 
-    by-left : (l : List ℕ) → left line ≡ l → (a : Number) × Means line a
+    by-left : (l : List ℕ) → remains line ≡ l → (a : Number) × Means line a
     by-left [] e = (Skipped Blank, (λ q. clash cc, e))
-    by-left (b ∷ bs) e = by-form (λ q. clash cc) (numeral (digitsOf (left line))) refl
+    by-left (b ∷ bs) e = by-form (λ q. clash cc) (numeral (digitsOf (remains line))) refl
 
 pub means : (cs : List ℕ) → Means cs (intOf cs)
 means cs = let m = one-of cs in subst (Means cs) (sym (means-is cs (m .0) (m .1))) (m .1)
@@ -168,3 +174,18 @@ nothing-left s at cs u = (past, none)
 
     none : length s ≤ at → cs ≡ []
     none h = utf8-unique (lineAt s at) cs [] u (utf8-none (lineAt s at) (rw (line-none s at h)))
+
+pub skip-means : (s : List ℕ) (at n : ℕ) (why : Reason) → takeOf intOf s at ≡ Skip n why
+    → (cs : List ℕ) × Utf8 (lineAt s at) cs × Means cs (Skipped why)
+unfolding pushOrSkip
+skip-means s at n why e = go (takes-of intOf s at)
+  where
+    by-number : (cs : List ℕ) (a : Number) → intOf cs ≡ a → Skip n why ≡ pushOrSkip a (lineEnd s at) → Means cs (Skipped why)
+    by-number cs (Value v) q h = clash cc
+    by-number cs (Skipped w) q h =
+        let z : w ≡ why = cc in
+        subst (λ (x : Reason). Means cs (Skipped x)) z (subst (Means cs) q (means cs))
+
+    go : Takes intOf s at (takeOf intOf s at) → (cs : List ℕ) × Utf8 (lineAt s at) cs × Means cs (Skipped why)
+    go (reads cs u h) = (cs, u, by-number cs (intOf cs) refl (sym e ∙ h))
+    go (bad f h) = clash cc

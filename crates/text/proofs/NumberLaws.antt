@@ -28,7 +28,8 @@ use Rattle.base.specs.Text.{decimal, digit, allDigits, numeral, valueAfter}
 use Rattle.base.proofs.Tests.{and-both, by-size}
 use Rattle.base.proofs.Clash.{clash}
 use Rattle.base.proofs.Decimal.{decimal-small, decimal-value, decimal-some, decimal-lead, decimal-numeral}
-use Rattle.text.specs.Number.{inRange, ranged, signed, plus, minus, parsed, magnitudeOf}
+use Rattle.text.specs.Number.{inRange, ranged, signed, plus, minus, parsed}
+use Rattle.text.specs.Magnitude.{magnitudeOf}
 use Rattle.text.specs.declared.number.Number.the-variants.{Value, Skipped}
 use Rattle.text.specs.declared.number.Reason.the-variants.{Blank, NotNumber, OutOfRange}
 use Rattle.text.specs.declared.number.Magnitude.the-variants.{Is, Large}

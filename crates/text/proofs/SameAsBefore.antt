@@ -1,6 +1,6 @@
 -- The reasons to skip a line (rule 10.8) change nothing else. The earlier definition, which tells no reason, stands here, and what
 -- an input instruction takes still meets it, the reason left out: the same lines give the same numbers (rule 10.3), are skipped and
--- are refused, and the same bytes are consumed.
+-- stop the run with BadInput, and the same bytes are consumed.
 --     same-as-before         IntIn
 --     same-as-before-char    CharIn
 -- Assumes nothing.

@@ -7,6 +7,7 @@ pub mod Trim
 pub mod Ends
 pub mod Line
 pub mod Number
+pub mod Magnitude
 pub mod Input
 pub mod Means
 pub mod Reading

@@ -1,5 +1,5 @@
--- What a line is to IntIn, by what it means: a number, or one of the four reasons to skip it (rules 10.3, 10.8).
--- proofs/Meaning.antt has that each line is one of the five, and no two, and that it is the one that `intOf` tells.
+-- What a line that is UTF-8 is to IntIn, by what it means: a number, or one of the four reasons to skip it (rules 10.3, 10.8).
+-- proofs/Meaning.antt has that each is one of the five, and no two, and that it is the one that `intOf` tells.
 -- Assumes nothing.
 use Prim.Native.Nat.{ℕ}
 use mathlib.Core.Path.{_≡_}
@@ -21,13 +21,13 @@ pub data Says : List ℕ → ℤ → Type 0 where
   minus : (digits : List ℕ) → numeral digits ≡ true → Says (0x2D ∷ digits) (opposite (valueAfter 0 digits))
 
 -- what is left of the characters of a line without the white space at its ends, in bytes
-abbrev pub left : List ℕ → List ℕ
-left cs = encodes (trimmed cs)
+abbrev pub remains : List ℕ → List ℕ
+remains cs = encodes (trimmed cs)
 
 -- the line of the characters cs. Only at the end of the input has it none
 unfoldable pub Means : List ℕ → Number → Type 0
-Means cs (Value z) = Says (left cs) z × (inRange z ≡ true)
+Means cs (Value z) = Says (remains cs) z × (inRange z ≡ true)
 Means cs (Skipped Ended) = cs ≡ []
-Means cs (Skipped Blank) = (cs ≡ [] → ⊥) × (left cs ≡ [])
-Means cs (Skipped NotNumber) = (left cs ≡ [] → ⊥) × ((z : ℤ) → Says (left cs) z → ⊥)
-Means cs (Skipped OutOfRange) = (z : ℤ) × Says (left cs) z × (inRange z ≡ false)
+Means cs (Skipped Blank) = (cs ≡ [] → ⊥) × (remains cs ≡ [])
+Means cs (Skipped NotNumber) = (remains cs ≡ [] → ⊥) × ((z : ℤ) → Says (remains cs) z → ⊥)
+Means cs (Skipped OutOfRange) = (z : ℤ) × Says (remains cs) z × (inRange z ≡ false)

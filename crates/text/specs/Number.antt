@@ -2,27 +2,27 @@
 use Prim.Native.Nat.{ℕ, _^_}
 use mathlib.Core.Bool.{Bool, cond}
 use mathlib.Core.List.{List, [], _∷_}
-use lib.Dec.{leb, ltb, eqb}
+use lib.Dec.{ltb, eqb}
 use lib.IntN.{ℤ, pos, negsuc, negℤ}
 use Rattle.base.specs.Text.{numeral, valueAfter}
 use Rattle.text.specs.declared.number.Number.{Number}
 use Rattle.text.specs.declared.number.Number.the-variants.{Value, Skipped}
 use Rattle.text.specs.declared.number.Reason.the-variants.{Blank, NotNumber, OutOfRange}
-use Rattle.text.specs.declared.number.Magnitude.{Magnitude}
-use Rattle.text.specs.declared.number.Magnitude.the-variants.{Is, Large}
 
 -- in range: from -2^63 to 2^63 - 1 (rule 9.10); `negsuc n` is -(n + 1)
 unfoldable pub inRange : ℤ → Bool
 inRange (pos n) = ltb n (2 ^ 63)
 inRange (negsuc n) = ltb n (2 ^ 63)
 
+-- a number that is said: it is given where it is in range
 unfoldable pub ranged : ℤ → Number
 ranged z = cond (inRange z) (Value z) (Skipped OutOfRange)
 
--- the number that a sign makes of the digits after it
+-- what a sign makes of the bytes after it: a number of digits, at least one; anything else has not the form
 unfoldable pub signed : (ℕ → ℤ) → List ℕ → Number
 signed sign bs = cond (numeral bs) (ranged (sign (valueAfter 0 bs))) (Skipped NotNumber)
 
+-- -n
 abbrev pub opposite : ℕ → ℤ
 opposite n = negℤ (pos n)
 
@@ -36,7 +36,3 @@ minus bs = signed opposite bs
 unfoldable pub parsed : List ℕ → Number
 parsed [] = Skipped Blank
 parsed (b ∷ bs) = cond (eqb b 0x2D) (minus bs) (cond (eqb b 0x2B) (plus bs) (plus (b ∷ bs)))
-
--- Inner: the value of digits, where it is no more than the limit
-unfoldable pub magnitudeOf : ℕ → List ℕ → Magnitude
-magnitudeOf limit bs = cond (leb (valueAfter 0 bs) limit) (Is (valueAfter 0 bs)) Large

@@ -31,8 +31,8 @@ pub fn line_end(input: &[u8], at: usize) -> usize
     i
 }
 
-// IntIn: the line as a number, without the white space at its ends (rule 10.3). At the end of the input the step is skipped
-// (rule 10.4).
+// IntIn: the line as a number, without the white space at its ends (rule 10.3), or why it is none (rule 10.8). At the end of
+// the input the step is skipped (rule 10.4).
 pub fn int_in(input: &[u8], at: usize) -> Taken
     ensures { λ r. ⌜ Takes intOf (now (input .entry)) at r ⌝ }
 {

@@ -4,7 +4,8 @@ ghost use mathlib.Core.Bool.{true};
 ghost use mathlib.Core.Path.{_≡_};
 ghost use Prim.Native.Nat.{_^_, _≤_};
 ghost use Rattle.base.specs.Text.{numeral};
-ghost use Rattle.text.specs.Number.{magnitudeOf, plus, minus, parsed};
+ghost use Rattle.text.specs.Magnitude.{magnitudeOf};
+ghost use Rattle.text.specs.Number.{plus, minus, parsed};
 
 // Why a line is skipped (rule 10.8).
 pub enum Reason {
@@ -14,7 +15,7 @@ pub enum Reason {
     Blank,
     // Something that hasn't the form of a number.
     NotNumber,
-    // A number, but none of 64 bits.
+    // A number, but none from -2^63 to 2^63 - 1.
     OutOfRange,
 }
 
@@ -47,7 +48,8 @@ fn is_numeral(s: &[u8]) -> bool
     true
 }
 
-// The value of digits, where it is no more than `limit`. The test comes before the product, which then can't wrap.
+// The value of digits, where it is no more than `limit`. The test comes before the product, which then can't wrap; with a
+// limit of 9 or more neither can `limit - d`.
 fn value_up_to(s: &[u8], limit: u64) -> Magnitude
     requires { ⌜ numeral (now s) ≡ true ⌝ }
     requires { ⌜ (9 ≤ limit) × (limit ≤ 2 ^ 63) ⌝ }
@@ -96,7 +98,7 @@ fn negative(s: &[u8]) -> Number
     Number::Value(-1 - ((n - 1) as i64))
 }
 
-// A number in decimal, with a sign or none.
+// A number in decimal, with a sign or none; an empty text is a blank line.
 pub fn parse(line: &[u8]) -> Number
     ensures { λ r. ⌜ r ≡ parsed (now (line .entry)) ⌝ }
 {

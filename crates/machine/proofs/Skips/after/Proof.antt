@@ -1,7 +1,7 @@
 -- `machine::Skips::after` meets its contract. Assumes nothing.
 use mathlib.Core.Path.{refl}
 use borrow.Author.Needs.{needs}
-use Rattle.machine.specs.Skips.{counted}
+use Rattle.machine.specs.Counts.{counted}
 use Rattle.machine.proofs.Skips.after.Statement.{statement}
 use Rattle.machine.proofs.Skips.after.Tie as tie
 

@@ -6,7 +6,7 @@ use Rattle.text.specs.declared.number.Reason.{Reason}
 use Rattle.text.specs.declared.number.Reason.the-variants.{Ended, Blank, NotNumber, OutOfRange}
 use Rattle.machine.specs.declared.Skips.{Skips}
 use borrow.Author.Needs.{needs}
-use Rattle.machine.specs.Skips.{place, one, oneMore}
+use Rattle.machine.specs.Counts.{indexOf, one, oneMore}
 use Rattle.machine.proofs.Skips.one_more.Statement.{statement}
 use Rattle.machine.proofs.Skips.one_more.Tie as tie
 
@@ -41,19 +41,19 @@ add-self-4 : tie.Need-add-self-4
 add-self-4 c = search needs
 
 returns : tie.Need-returns
-unfolding place one
+unfolding indexOf one
 returns c = rw (c .before .enum-told .given .1) (each Ended (c .before .before .before .args .self) _ (omega arith) (omega arith) (omega arith) (omega arith))
 
 returns-2 : tie.Need-returns-2
-unfolding place one
+unfolding indexOf one
 returns-2 c = rw (c .before .enum-told2 .given .1) (each Blank (c .before .before .before .args .self) _ (omega arith) (omega arith) (omega arith) (omega arith))
 
 returns-3 : tie.Need-returns-3
-unfolding place one
+unfolding indexOf one
 returns-3 c = rw (c .before .enum-told3 .given .1) (each NotNumber (c .before .before .before .args .self) _ (omega arith) (omega arith) (omega arith) (omega arith))
 
 returns-4 : tie.Need-returns-4
-unfolding place one
+unfolding indexOf one
 returns-4 c = rw (c .before .enum-told4 .given .1) (each OutOfRange (c .before .before .before .args .self) _ (omega arith) (omega arith) (omega arith) (omega arith))
 
 pub one-more-spec : {M : Type 1} → statement M

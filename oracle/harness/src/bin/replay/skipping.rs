@@ -33,7 +33,8 @@ fn counted() -> Vec<Question> {
     (0..=6).map(up_to).chain(inputs.map(|input| reading(4, input))).collect()
 }
 
-/// Each reason twice: at a full stack, where a number then stops the run, and in abstract mode.
+/// Each reason twice: at a full stack, where a number or a bad line then stops the run, in abstract mode, and before the
+/// run has nowhere to go.
 fn for_each_reason() -> Vec<Question> {
     let mut all = vec![];
     for line in ["", " \n", "x\n", "99999999999999999999\n"] {
@@ -46,13 +47,16 @@ fn for_each_reason() -> Vec<Question> {
         all.push(in_room(0, 3, format!("{twice}7\n")));
         all.push(in_room(1, 3, format!("7\n{twice}")));
         all.push(in_room(1, 4, format!("7\n{twice}8\n")));
+        let bad_at_last = [b"7\n" as &[u8], twice.as_bytes(), b"\xFF\n"].concat();
+        all.push(Question { input: bad_at_last, ..in_room(1, 4, String::new()) });
+        all.push(question(drawn(1, &["5c", "cc"]), 9, line.as_bytes()));
         let unread = Question { is_abstract: true, ..reading(2, twice.as_bytes()) };
         all.extend([1, 2].map(|limit| Question { limit, ..unread.clone() }));
     }
     all
 }
 
-/// Bad input, no room for an output, nowhere to go: the counts are those of the steps taken.
+/// Bad input, also where it is not read, and no room for an output: the counts are those of the steps taken.
 fn stopped() -> Vec<Question> {
     let bad: [&[u8]; 4] = [
         b"99999999999999999999\xFF\n",
@@ -64,7 +68,8 @@ fn stopped() -> Vec<Question> {
     let no_outputs = Room { outputs: 0, ..ROOM };
     let writing = program(&ops(&[IntIn, IntIn, Push, IntOut]), 0, b"x\n");
     all.push(Question { room: no_outputs, ..writing });
-    all.push(question(drawn(1, &["5c", "cc"]), 9, b"x\n"));
+    let unread = reading(2, b"\xFF\n");
+    all.push(Question { is_abstract: true, limit: 5, ..unread });
     all
 }
 

@@ -1,7 +1,7 @@
 -- Number lines that were skipped, counted by the reason (rules 10.8, 10.9). Assumes nothing.
 use mathlib.Core.Bool.{cond}
 use mathlib.Core.List.{List, [], _∷_}
-use Prim.Native.Nat.{ℕ, _+_}
+use Prim.Native.Nat.{ℕ, _+_, _^_, _<_}
 use lib.Dec.{eqb}
 use lib.ListN.{getD}
 use Rattle.text.specs.declared.number.Reason.{Reason}
@@ -14,25 +14,29 @@ use Rattle.machine.specs.declared.Skips.{Skips}
 abbrev pub countsOf : Skips → List ℕ
 countsOf s = s .ended ∷ s .blank ∷ s .«not_number» ∷ s .«out_of_range» ∷ []
 
-unfoldable pub place : Reason → ℕ
-place Ended = 0
-place Blank = 1
-place NotNumber = 2
-place OutOfRange = 3
+unfoldable pub indexOf : Reason → ℕ
+indexOf Ended = 0
+indexOf Blank = 1
+indexOf NotNumber = 2
+indexOf OutOfRange = 3
 
 abbrev pub countOf : Reason → Skips → ℕ
-countOf why s = getD (countsOf s) (place why) 0
+countOf why s = getD (countsOf s) (indexOf why) 0
 
 abbrev pub total : Skips → ℕ
 total s = s .ended + s .blank + s .«not_number» + s .«out_of_range»
+
+-- one more can be counted in 64 bits
+abbrev pub Countable : Skips → Type 0
+Countable s = total s + 1 < 2 ^ 64
 
 -- before any line was skipped
 abbrev pub noSkips : Skips
 noSkips = record { ended = 0; blank = 0; «not_number» = 0; «out_of_range» = 0 }
 
--- 1 of a reason for itself, 0 for another
+-- 1 where the two are one reason, else 0
 unfoldable pub one : Reason → Reason → ℕ
-one why other = cond (eqb (place why) (place other)) 1 0
+one why other = cond (eqb (indexOf why) (indexOf other)) 1 0
 
 -- one more of a reason
 unfoldable pub oneMore : Reason → Skips → Skips
