@@ -15,10 +15,9 @@ use lib.ListN.{length, take, drop, drop-of-length-le}
 use Rattle.base.proofs.Clash.{clash}
 use Rattle.text.specs.Line.{lineLength, lineEnd}
 use Rattle.text.specs.Utf8.{encodes, Utf8, Valid, IsChar, Reads, char, bad, past}
-use Rattle.text.specs.White.{trimmed}
 use Rattle.text.specs.Trim.{Trims}
 use Rattle.text.specs.Number.{parsed}
-use Rattle.text.specs.Input.{charOf, intOf, pushOrSkip, Takes, reads, bad as bad-line}
+use Rattle.text.specs.Input.{charOf, remains, intOf, pushOrSkip, Takes, reads, bad as bad-line}
 use Rattle.text.specs.declared.utf8.Decoded.{Decoded}
 use Rattle.text.specs.declared.number.Number.{Number}
 use Rattle.text.specs.declared.number.Number.the-variants.{Value, Skipped}
@@ -60,7 +59,7 @@ unfolding encodes
 some-char l [] u h e = omega (arith, ap length (u .same))
 some-char l (c ∷ cs) u h e = clash cc
 
-int-some : (cs : List ℕ) → (cs ≡ [] → ⊥) → intOf cs ≡ parsed (encodes (trimmed cs))
+int-some : (cs : List ℕ) → (cs ≡ [] → ⊥) → intOf cs ≡ parsed (remains cs)
 unfolding intOf
 int-some [] h = absurd (h refl)
 int-some (c ∷ cs) h = refl

@@ -23,9 +23,9 @@ use Rattle.text.specs.Line.{lineAt, lineEnd}
 use Rattle.text.specs.Utf8.{encodes, Utf8}
 use Rattle.text.specs.White.{trimStart}
 use Rattle.text.specs.Number.{inRange, ranged, signed, opposite, parsed}
-use Rattle.text.specs.Input.{intOf, pushOrSkip, Takes, reads, bad}
+use Rattle.text.specs.Input.{remains, intOf, pushOrSkip, Takes, reads, bad}
 use Rattle.text.specs.Reading.{takeOf}
-use Rattle.text.specs.Means.{Says, bare, plus, minus, remains, Means}
+use Rattle.text.specs.Means.{Says, bare, plus, minus, Means}
 use Rattle.text.specs.declared.number.Number.{Number}
 use Rattle.text.specs.declared.number.Number.the-variants.{Value, Skipped}
 use Rattle.text.specs.declared.number.Reason.{Reason}

@@ -18,10 +18,14 @@ unfoldable pub charOf : List ℕ → Number
 charOf [] = Skipped Ended
 charOf (c ∷ cs) = Value (pos c)
 
+-- what is left of the characters of a line without the white space at its ends, in bytes
+abbrev pub remains : List ℕ → List ℕ
+remains cs = encodes (trimmed cs)
+
 -- IntIn: the number that a line is without the white space at its ends (rule 10.3), or why it is none (rule 10.8)
 unfoldable pub intOf : List ℕ → Number
 intOf [] = Skipped Ended
-intOf (c ∷ cs) = parsed (encodes (trimmed (c ∷ cs)))
+intOf (c ∷ cs) = parsed (remains (c ∷ cs))
 
 -- what a line gives is pushed, or the step is skipped (rule 10.4); with the place after the line
 unfoldable pub pushOrSkip : Number → ℕ → Taken

@@ -7,9 +7,8 @@ use mathlib.Core.Bool.{true, false}
 use mathlib.Core.List.{List, [], _∷_}
 use lib.IntN.{ℤ, pos}
 use Rattle.base.specs.Text.{numeral, valueAfter}
-use Rattle.text.specs.Utf8.{encodes}
-use Rattle.text.specs.White.{trimmed}
 use Rattle.text.specs.Number.{inRange, opposite}
+use Rattle.text.specs.Input.{remains}
 use Rattle.text.specs.declared.number.Number.{Number}
 use Rattle.text.specs.declared.number.Number.the-variants.{Value, Skipped}
 use Rattle.text.specs.declared.number.Reason.the-variants.{Ended, Blank, NotNumber, OutOfRange}
@@ -19,10 +18,6 @@ pub data Says : List ℕ → ℤ → Type 0 where
   bare : (digits : List ℕ) → numeral digits ≡ true → Says digits (pos (valueAfter 0 digits))
   plus : (digits : List ℕ) → numeral digits ≡ true → Says (0x2B ∷ digits) (pos (valueAfter 0 digits))
   minus : (digits : List ℕ) → numeral digits ≡ true → Says (0x2D ∷ digits) (opposite (valueAfter 0 digits))
-
--- what is left of the characters of a line without the white space at its ends, in bytes
-abbrev pub remains : List ℕ → List ℕ
-remains cs = encodes (trimmed cs)
 
 -- the line of the characters cs. Only at the end of the input has it none
 unfoldable pub Means : List ℕ → Number → Type 0
