@@ -2,6 +2,8 @@
 pub mod Cells
 pub mod Mirror
 pub mod Turning
+pub mod Exchanging
 pub mod Rolling
 pub mod Unique
 pub mod Only
+pub mod Cost

@@ -6,7 +6,10 @@ use native.Mathlib.Omega.{arith}
 use lib.ListN.{length, getD, set, take, drop, length-append, length-drop, length-take, take-append-drop}
 use lib.Seq.{take-at, drop-at, set-at, split-at, getD-drop, length-take-le, drop-drop}
 use lib.IntN.{ℤ, pos}
-use Rattle.stack.specs.Instr.{mirrored}
+
+-- the cells from lo up to hi in the opposite order
+unfoldable pub mirrored : ℕ → ℕ → List ℤ → List ℤ
+mirrored lo hi c = take lo c ++ reverse (take (hi - lo) (drop lo c)) ++ drop hi c
 
 module _ {A : Type 0} where
   sum : (p q : List A) {i j : ℕ} → length p ≡ i → i + length q ≡ j → length (p ++ q) ≡ j

@@ -8,8 +8,7 @@ use lib.Seq.{take-at, drop-at, take-suc, getD-append-add, length-take-le}
 use lib.IntN.{ℤ, pos}
 use Rattle.stack.specs.Stack.{stackOf, Lies, Does}
 use Rattle.stack.specs.Instr as Instr
-use Rattle.stack.specs.Instr.{mirrored}
-use Rattle.stack.proofs.Mirror.{mirror-cut}
+use Rattle.stack.proofs.Mirror.{mirrored, mirror-cut}
 
 -- a stack is its cells backwards
 pub stackOf-take : (c : List ℤ) (d : ℕ) → d ≤ length c → stackOf c d ≡ reverse (take d c)

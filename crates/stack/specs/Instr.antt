@@ -1,7 +1,7 @@
 -- What each instruction does to a stack, written top first (rules 9.1 to 9.6, 9.8). Assumes nothing.
 use mathlib.Core.Bool.{Bool, cond}
-use mathlib.Core.List.{List, [], _∷_, _++_, reverse}
-use Prim.Native.Nat.{ℕ, _-_}
+use mathlib.Core.List.{List, [], _∷_, _++_}
+use Prim.Native.Nat.{ℕ}
 use lib.Dec.{ltb, eqb}
 use lib.ListN.{length, take, drop}
 use lib.IntN.{ℤ, pos, negsuc, _+ℤ_, _-ℤ_, _*ℤ_}
@@ -66,7 +66,3 @@ unfoldable pub roll : List ℤ → List ℤ
 roll [] = []
 roll (a ∷ []) = a ∷ []
 roll (a ∷ (n ∷ s)) = rolled (places n (length s)) a s
-
--- the cells from lo up to hi in the opposite order
-unfoldable pub mirrored : ℕ → ℕ → List ℤ → List ℤ
-mirrored lo hi c = take lo c ++ reverse (take (hi - lo) (drop lo c)) ++ drop hi c

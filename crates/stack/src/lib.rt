@@ -8,6 +8,7 @@ ghost use lib.Signed.{ltZ};
 ghost use Rattle.word.specs.Word.{values};
 ghost use Rattle.stack.specs.Stack.{Lies, Does, Grows};
 ghost use Rattle.stack.specs.Instr as Instr;
+ghost use Rattle.stack.specs.Exchange.{exchanged, reversal, threeReversals};
 use word::Divided;
 
 // v on top, where there is room. With pop and put the only function that stores one value: all others are made of these.
@@ -140,10 +141,10 @@ fn dup(stack: &mut [i64], depth: usize) -> usize
     push(stack, depth, a)
 }
 
-// The cells from lo up to hi in the opposite order, from both ends inward: each cell is moved once.
+// The cells from lo up to hi in the opposite order, by exchanges from both ends inward: each cell is written at most once.
 fn reverse(s: &mut [i64], lo: usize, hi: usize)
     requires { ⌜ (lo ≤ hi) × (hi ≤ length (now s)) ⌝ }
-    ensures { λ _. ⌜ now (s .exit) ≡ Instr.mirrored lo hi (now (s .entry)) ⌝ }
+    ensures { λ _. ⌜ now (s .exit) ≡ exchanged (reversal lo hi) (now (s .entry)) ⌝ }
 {
     let mut i = lo;
     let mut j = hi;
@@ -157,12 +158,12 @@ fn reverse(s: &mut [i64], lo: usize, hi: usize)
     }
 }
 
-// The top n values turned by k places: the k uppermost go below the others. Three reversals move each cell twice, whatever
-// k is, and need no room beside the stack.
+// The top n values turned by k places: the k uppermost go below the others. Three reversals write each cell at most twice,
+// whatever k is, and need no room beside the stack (rule 9.11).
 fn turn(stack: &mut [i64], depth: usize, n: usize, k: usize)
     requires { ⌜ Lies (now stack) depth ⌝ }
     requires { ⌜ (k ≤ n) × (n ≤ depth) ⌝ }
-    ensures { λ _. ⌜ Does (Instr.turn n k) (now (stack .entry)) depth (now (stack .exit)) depth ⌝ }
+    ensures { λ _. ⌜ now (stack .exit) ≡ exchanged (threeReversals depth n k) (now (stack .entry)) ⌝ }
 {
     reverse(stack, depth - n, depth - k);
     reverse(stack, depth - k, depth);

@@ -1,4 +1,5 @@
--- `stack::reverse` meets its contract. The loop's invariant: what is left to mirror gives the whole. Assumes nothing.
+-- `stack::reverse` meets its contract. The loop's invariant: the exchanges that are left give what all of them give. Assumes
+-- nothing.
 use mathlib.Core.Path.{_≡_, sym, ap, _∙_}
 use mathlib.Core.List.{List}
 use Prim.Native.Nat.{ℕ, _+_, _-_, _<_, _≤_}
@@ -8,13 +9,14 @@ use lib.ListN.{length, getD, set, length-set}
 use lib.IntN.{ℤ, pos}
 use denote.Ref.{now}
 use Rattle.word.proofs.Signed.{back}
-use Rattle.stack.specs.Instr.{mirrored}
-use Rattle.stack.proofs.Mirror.{mirror-step, mirror-end}
+use Rattle.stack.specs.Exchange.{Exchanges, exchange, exchanged, reversal}
+use Rattle.stack.proofs.Exchanging.{reversal-step, reversal-end}
 use Rattle.stack.proofs.reverse.Statement.{statement}
 use Rattle.stack.proofs.reverse.Tie as tie
 
 abbrev Inv-loop : tie.InvT-loop
-Inv-loop s₀ lo hi i₀ j₀ s i j = (i ≤ j) × (j ≤ length s) × (length s ≡ length s₀) × (mirrored i j s ≡ mirrored lo hi s₀)
+Inv-loop s₀ lo hi i₀ j₀ s i j = (i ≤ j) × (j ≤ length s) × (length s ≡ length s₀)
+    × (exchanged (reversal i j) s ≡ exchanged (reversal lo hi) s₀)
 
 abbrev μ-loop : tie.MeasureT-loop
 μ-loop s₀ lo hi i₀ j₀ s i j = j - i
@@ -61,13 +63,12 @@ loop-less c = search needs
 -- a turn keeps the invariant. Stated over plain variables: in the need's own terms `simp` does not see the stores
 again : (s s₀ : List ℤ) (i j lo hi : ℕ) {x y : ℤ} → x ≡ getD s i (pos 0) → y ≡ getD s (j - 1) (pos 0) → i + 1 < j
     → Inv-loop s₀ lo hi lo hi s i j → Inv-loop s₀ lo hi lo hi (set (set s i y) (j - 1) x) (i + 1) (j - 1)
+unfolding exchanged exchange
 again s s₀ i j lo hi {x} {y} ex ey h inv = (
   omega arith,
   simp length-set (omega arith),
   simp length-set (inv .2),
-  ap (λ (z : ℤ). mirrored (i + 1) (j - 1) (set (set s i y) (j - 1) z)) ex
-      ∙ ap (λ (z : ℤ). mirrored (i + 1) (j - 1) (set (set s i z) (j - 1) (getD s i (pos 0)))) ey
-      ∙ mirror-step s i j h (inv .1) ∙ inv .3,
+  rw (ex, ey) (sym (ap (λ (ps : Exchanges). exchanged ps s) (reversal-step i j h)) ∙ inv .3),
 )
 
 loop-again : tie.Need-loop-again Inv-loop μ-loop
@@ -82,9 +83,10 @@ same-length : tie.Need-same-length Inv-loop μ-loop
 same-length c = search needs
 
 returns : tie.Need-returns Inv-loop μ-loop
+unfolding exchanged
 returns c =
     let l = c .before .loop in
-    sym (mirror-end (l .s) (l .i) (l .j) (omega arith) (omega arith) (omega arith)) ∙ l .inv .3
+    sym (ap (λ (ps : Exchanges). exchanged ps (l .s)) (reversal-end (l .i) (l .j) (omega arith))) ∙ l .inv .3
 
 pub reverse-spec : {M : Type 1} → statement M
 reverse-spec =

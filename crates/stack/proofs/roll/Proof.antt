@@ -11,6 +11,7 @@ use Rattle.word.proofs.Signed.{back}
 use Rattle.word.proofs.Wrapping.{residue-lt}
 use Rattle.stack.specs.Instr as Instr
 use Rattle.stack.proofs.Rolling.{few-roll, places-le, roll-none, roll-some}
+use Rattle.stack.proofs.Exchanging.{turns}
 use Rattle.stack.proofs.roll.Statement.{statement}
 use Rattle.stack.proofs.roll.Tie as tie
 
@@ -92,8 +93,10 @@ returns-3 : tie.Need-returns-3
 returns-3 c =
     let m = c .before .before .before in
     let p = m .before .before .before .before in
+    let q = turn-requires (c .before .before) (c .before .turn .lifetimes) in
     roll-some (p .before .before .before .before .if1 .left) (p .pop-two .ensures) (m .before .before .places .result)
-    (m .residue .result) (places-is (m .before .before)) (fits (m .before) .0) (residue-is m) (c .before .turn .ensures)
+    (m .residue .result) (places-is (m .before .before)) (fits (m .before) .0) (residue-is m)
+    (rw (c .before .turn .ensures) (turns _ _ _ _ (q .1 .0) (q .1 .1) (q .0)))
 
 pub roll-spec : {M : Type 1} → statement M
 roll-spec =

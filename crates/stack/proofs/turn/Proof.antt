@@ -1,7 +1,8 @@
--- `stack::turn` meets its contract: three mirrorings turn. Assumes nothing.
+-- `stack::turn` meets its contract: its exchanges are those of its three calls. Assumes nothing.
+use mathlib.Core.Path.{sym}
 use borrow.Author.Needs.{needs}
 use denote.Ref.{now}
-use Rattle.stack.proofs.Turning.{turns-at}
+use Rattle.stack.proofs.Exchanging.{three}
 use Rattle.stack.proofs.turn.Statement.{statement}
 use Rattle.stack.proofs.turn.Tie as tie
 
@@ -35,7 +36,7 @@ returns c =
     let e₁ = c .before .before .before .before .before .before .before .reverse .ensures in
     let e₂ = c .before .before .before .before .reverse2 .ensures in
     let e₃ = c .before .reverse3 .ensures in
-    rw (e₃, e₂, e₁) (turns-at (now (s .args .stack)) (s .args .depth) (s .args .n) (s .args .k) (s .pre .1 .0) (s .pre .1 .1) (s .pre .0))
+    rw (e₃, e₂, e₁) (sym (three (s .args .depth) (s .args .n) (s .args .k) (now (s .args .stack))))
 
 pub turn-spec : {M : Type 1} → statement M
 turn-spec =

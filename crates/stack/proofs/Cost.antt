@@ -1,0 +1,192 @@
+-- What one Roll costs (rule 9.11): its exchanges write each of the n cells that turn at most twice and no other, whatever a is, and what
+-- `roll` leaves in the cells is what these exchanges make of them.
+--     roll-twice, roll-elsewhere    each cell
+--     roll-few                      all of them
+--     roll-is                       the contract of `roll` and the exchanges agree on every cell
+-- Assumes nothing.
+use mathlib.Core.Path.{_≡_, refl, sym, ap, _∙_}
+use mathlib.Core.List.{List, [], _∷_, _++_}
+use mathlib.Core.Bool.{Bool, true, false, cond}
+use mathlib.Core.Logic.{_⊎_, inl, inr}
+use Prim.Native.Nat.{ℕ, zero, suc, _+_, _-_, _*_, _/_, _<_, _≤_}
+use native.Mathlib.Decide.{decLt}
+use native.Mathlib.Omega.{arith}
+use borrow.Author.Tests.{eqb-true, eqb-false, ne-eqb}
+use lib.Dec.{eqb}
+use lib.ListN.{length, getD, set, drop, length-append, length-set}
+use lib.IntN.{ℤ, pos}
+use Rattle.word.specs.Word.{residue}
+use Rattle.word.proofs.Wrapping.{residue-lt}
+use Rattle.stack.specs.Stack.{stackOf, Lies, Does}
+use Rattle.stack.specs.Instr as Instr
+use Rattle.stack.specs.Instr.{places}
+use Rattle.stack.specs.Exchange.{Exchanges, exchanged, inward, reversal, threeReversals, rollExchanges, writesTo}
+use Rattle.stack.proofs.Cells.{pops-at, pop-pop, then, two, stackOf-length}
+use Rattle.stack.proofs.Rolling.{places-le, roll-none, roll-some}
+use Rattle.stack.proofs.Exchanging.{turns, length-exchanged}
+use Rattle.stack.proofs.Only.{does-only}
+
+joined : (i : ℕ) (ps qs : Exchanges) → writesTo i (ps ++ qs) ≡ writesTo i ps + writesTo i qs
+unfolding writesTo
+joined i [] qs = omega arith
+joined i (p ∷ ps) qs = omega (arith, joined i ps qs)
+
+-- an exchange of two other cells
+apart : (i lo hi w : ℕ) → (i ≡ lo → ⊥) → (i ≡ hi → ⊥) → cond (eqb i lo) 1 0 + cond (eqb i hi) 1 0 + w ≡ w
+apart i lo hi w a b = rw (ne-eqb i lo a, ne-eqb i hi b) (omega arith)
+
+-- pairs from both ends inward that do not meet write no cell outside their part ..
+below : (m lo hi i : ℕ) → lo + 2 * m ≤ hi → i < lo → writesTo i (inward m lo hi) ≡ 0
+unfolding inward writesTo
+below zero lo hi i h b = refl
+below (suc m) lo hi i h b =
+    apart i lo (hi - 1) _ (λ e. omega arith) (λ e. omega arith) ∙ below m (suc lo) (hi - 1) i (omega arith) (omega arith)
+
+above : (m lo hi i : ℕ) → lo + 2 * m ≤ hi → hi ≤ i → writesTo i (inward m lo hi) ≡ 0
+unfolding inward writesTo
+above zero lo hi i h b = refl
+above (suc m) lo hi i h b =
+    apart i lo (hi - 1) _ (λ e. omega arith) (λ e. omega arith) ∙ above m (suc lo) (hi - 1) i (omega arith) (omega arith)
+
+-- .. and none in it more than once
+once : (m lo hi i : ℕ) → lo + 2 * m ≤ hi → writesTo i (inward m lo hi) ≤ 1
+unfolding inward writesTo
+once zero lo hi i h = omega arith
+once (suc m) lo hi i h = go (eqb i lo) (eqb i (hi - 1)) refl refl (writesTo i (inward m (suc lo) (hi - 1)))
+    (below m (suc lo) (hi - 1) i (omega arith)) (above m (suc lo) (hi - 1) i (omega arith)) (once m (suc lo) (hi - 1) i (omega arith))
+  where
+    go : (s t : Bool) → eqb i lo ≡ s → eqb i (hi - 1) ≡ t → (w : ℕ) → (i < suc lo → w ≡ 0) → (hi - 1 ≤ i → w ≡ 0) → w ≤ 1
+        → cond s 1 0 + cond t 1 0 + w ≤ 1
+    go true true e f w b a r = absurd (omega (arith, eqb-true i lo e, eqb-true i (hi - 1) f))
+    go true false e f w b a r =
+        let q = eqb-true i lo e in
+        omega (arith, b (omega arith))
+    go false true e f w b a r =
+        let q = eqb-true i (hi - 1) f in
+        omega (arith, a (omega arith))
+    go false false e f w b a r = omega arith
+
+-- the same of a reversal
+module _ (lo hi i : ℕ) (h : lo ≤ hi) where
+  half : (lo hi : ℕ) → lo ≤ hi → lo + 2 * ((hi - lo) / 2) ≤ hi
+  half lo hi h = omega arith
+
+  reversal-below : i < lo → writesTo i (reversal lo hi) ≡ 0
+  reversal-below = below ((hi - lo) / 2) lo hi i (half lo hi h)
+
+  reversal-above : hi ≤ i → writesTo i (reversal lo hi) ≡ 0
+  reversal-above = above ((hi - lo) / 2) lo hi i (half lo hi h)
+
+  reversal-once : writesTo i (reversal lo hi) ≤ 1
+  reversal-once = once ((hi - lo) / 2) lo hi i (half lo hi h)
+
+inward-length : (m lo hi : ℕ) → length (inward m lo hi) ≡ m
+unfolding inward
+inward-length zero lo hi = refl
+inward-length (suc m) lo hi = ap suc (inward-length m (suc lo) (hi - 1))
+
+module _ (d n k : ℕ) (kn : k ≤ n) (nd : n ≤ d) where
+  each : (i : ℕ)
+      → writesTo i (threeReversals d n k)
+      ≡ writesTo i (reversal (d - n) (d - k)) + writesTo i (reversal (d - k) d) + writesTo i (reversal (d - n) d)
+  unfolding threeReversals
+  each i =
+      joined i (reversal (d - n) (d - k) ++ reversal (d - k) d) (reversal (d - n) d)
+      ∙ ap (λ (w : ℕ). w + writesTo i (reversal (d - n) d)) (joined i (reversal (d - n) (d - k)) (reversal (d - k) d))
+
+  -- a cell is in the lower part or in the upper one, and in the whole
+  turn-twice : (i : ℕ) → writesTo i (threeReversals d n k) ≤ 2
+  turn-twice i = go (decLt i (d - k))
+    where
+      go : Dec (i < d - k) → writesTo i (threeReversals d n k) ≤ 2
+      go (yes b) =
+          omega
+          (arith, each i, reversal-once (d - n) (d - k) i (omega arith), reversal-below (d - k) d i (omega arith) b, reversal-once (d - n) d i (omega arith))
+      go (no a) =
+          omega
+          (arith, each i, reversal-above (d - n) (d - k) i (omega arith) (omega arith), reversal-once (d - k) d i (omega arith), reversal-once (d - n) d i (omega arith))
+
+  turn-elsewhere : (i : ℕ) → (i < d - n) ⊎ (d ≤ i) → writesTo i (threeReversals d n k) ≡ 0
+  turn-elsewhere i (inl b) =
+      each i
+      ∙ rw (reversal-below (d - n) (d - k) i (omega arith) b, reversal-below (d - k) d i (omega arith) (omega arith), reversal-below (d - n) d i (omega arith) b)
+      refl
+  turn-elsewhere i (inr a) =
+      each i
+      ∙ rw (reversal-above (d - n) (d - k) i (omega arith) (omega arith), reversal-above (d - k) d i (omega arith) a, reversal-above (d - n) d i (omega arith) a)
+      refl
+
+  turn-few : length (threeReversals d n k) ≤ n
+  unfolding threeReversals
+  turn-few = simp (length-append, inward-length) (omega arith)
+
+-- the test of whether any value turns
+some-turn : (m : ℕ) → eqb m 0 ≡ false → 0 < m
+some-turn m e = go m (eqb-false m 0 e)
+  where
+    go : (m : ℕ) → (m ≡ 0 → ⊥) → 0 < m
+    go m h = omega arith
+
+-- a Roll of a and n over the values s
+module _ (a n : ℤ) (s : List ℤ) where
+  abbrev turned : ℕ
+  turned = places n (length s)
+
+  -- what holds of no exchange, and of three reversals by any count of places, holds of its exchanges
+  by-reversals : (P : Exchanges → Type 0) → P [] → ((k : ℕ) → k ≤ turned → P (threeReversals (length s) turned k)) → P (rollExchanges (a ∷ (n ∷ s)))
+  unfolding rollExchanges
+  by-reversals P none some = go (eqb turned 0) refl
+    where
+      go : (t : Bool) → eqb turned 0 ≡ t → P (cond t [] (threeReversals (length s) turned (residue a turned)))
+      go true e = none
+      go false e = some (residue a turned) (omega (arith, residue-lt a turned (some-turn turned e)))
+
+  -- each cell is written at most twice ..
+  pub roll-twice : (i : ℕ) → writesTo i (rollExchanges (a ∷ (n ∷ s))) ≤ 2
+  unfolding writesTo
+  roll-twice i = by-reversals (λ ps. writesTo i ps ≤ 2) (omega arith) (λ k h. turn-twice (length s) turned k h (places-le n (length s)) i)
+
+  -- .. those below the values that turn, and from the place of n on, not at all
+  pub roll-elsewhere : (i : ℕ) → (i < length s - turned) ⊎ (length s ≤ i) → writesTo i (rollExchanges (a ∷ (n ∷ s))) ≡ 0
+  unfolding writesTo
+  roll-elsewhere i o = by-reversals (λ ps. writesTo i ps ≡ 0) refl (λ k h. turn-elsewhere (length s) turned k h (places-le n (length s)) i o)
+
+  -- as many exchanges as values turn at the most, so two writes for each of them
+  pub roll-few : length (rollExchanges (a ∷ (n ∷ s))) ≤ turned
+  roll-few = by-reversals (λ ps. length ps ≤ turned) (omega arith) (λ k h. turn-few (length s) turned k h (places-le n (length s)))
+
+-- the cells after a Roll: those of a and n are cleared, and then the exchanges are made
+module _ (c : List ℤ) (d : ℕ) (h : 2 ≤ d) (l : Lies c d) where
+  abbrev cleared : List ℤ
+  cleared = set (set c (d - 1) (pos 0)) (d - 2) (pos 0)
+
+  clears : Does (drop 2) c d cleared (d - 2)
+  clears =
+      let p = pops-at c d (omega arith) l in
+      rw (less d) at (then p (pops-at (set c (d - 1) (pos 0)) (d - 1) (omega arith) (p .lies)) pop-pop)
+    where
+      less : (d : ℕ) → d - 1 - 1 ≡ d - 2
+      less d = omega arith
+
+  does-roll : Does Instr.roll c d (exchanged (rollExchanges (stackOf c d)) cleared) (d - 2)
+  unfolding rollExchanges exchanged
+  does-roll = rw (two c d h, stackOf-length c (d - 2)) (go (eqb m 0) refl)
+    where
+      a : ℤ
+      a = getD c (d - 1) (pos 0)
+
+      m : ℕ
+      m = places (getD c (d - 2) (pos 0)) (d - 2)
+
+      go : (t : Bool) → eqb m 0 ≡ t → Does Instr.roll c d (exchanged (cond t [] (threeReversals (d - 2) m (residue a m))) cleared) (d - 2)
+      go true e = roll-none h clears (eqb-true m 0 e)
+      go false e =
+          let g = some-turn m e in
+          roll-some h clears m (residue a m) refl g refl
+          (turns cleared (d - 2) m (residue a m) (omega (arith, residue-lt a m g)) (places-le (getD c (d - 2) (pos 0)) (d - 2)) (clears .lies))
+
+  pub roll-is : (c′ : List ℤ) (d′ : ℕ) → length c′ ≡ length c → Does Instr.roll c d c′ d′
+      → c′ ≡ exchanged (rollExchanges (stackOf c d)) cleared
+  roll-is c′ d′ e p =
+      does-only Instr.roll c d c′ (exchanged (rollExchanges (stackOf c d)) cleared) e
+      (length-exchanged (rollExchanges (stackOf c d)) cleared ∙ simp length-set) d′ (d - 2) p does-roll .1
