@@ -13,8 +13,7 @@ fn print_job(job: &[u8]) {
 fn print_jobs(records: &[u8]) {
     let mut at = 0;
     while 2 <= records.len() - at {
-        let size = stored::wide(records[at]) + 256 * stored::wide(records[at + 1]);
-        let end = stored::record_end(records, at + 2, size);
+        let end = stored::record_end(records, at + 2, stored::pair_at(records, at));
         print_job(&records[at + 2..end]);
         at = end;
     }

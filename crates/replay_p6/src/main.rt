@@ -2,7 +2,7 @@
 // then in two bytes each, the lower first, the room that is lent, the height, the width and a length, and so many bytes, the
 // file or the pixels. `stdout` has a line for each: `r` or `w`, the number that was returned, the cells of the answer, a colon,
 // and the lent bytes after the call, which were all 7 before it.
-ghost use Prim.Native.Nat.{_+_, _<_, _≤_};
+ghost use Prim.Native.Nat.{_+_, _≤_};
 ghost use lib.ListN.{length};
 use libc::STDIN_FILENO;
 use libc::STDOUT_FILENO;
@@ -30,21 +30,13 @@ fn print_case(kind: u8, height: usize, width: usize, body: &[u8], lent: &mut [u8
     print_line(b"w", number, &size, lent);
 }
 
-// Two bytes as a number.
-fn pair_at(cases: &[u8], at: usize) -> usize
-    requires { ⌜ at + 2 ≤ length (now cases) ⌝ }
-    ensures { λ r. ⌜ r < 65536 ⌝ }
-{
-    stored::wide(cases[at]) + 256 * stored::wide(cases[at + 1])
-}
-
 fn print_at(cases: &[u8], at: usize, end: usize)
     requires { ⌜ (at + 9 ≤ end) × (end ≤ length (now cases)) ⌝ }
 {
     let mut lent = [7u8; 65536];
-    let room = pair_at(cases, at + 1);
-    let height = pair_at(cases, at + 3);
-    let width = pair_at(cases, at + 5);
+    let room = stored::pair_at(cases, at + 1);
+    let height = stored::pair_at(cases, at + 3);
+    let width = stored::pair_at(cases, at + 5);
     print_case(
         cases[at],
         height,
@@ -57,7 +49,7 @@ fn print_at(cases: &[u8], at: usize, end: usize)
 fn print_cases(cases: &[u8]) {
     let mut at = 0;
     while 9 <= cases.len() - at {
-        let end = stored::record_end(cases, at + 9, pair_at(cases, at + 7));
+        let end = stored::record_end(cases, at + 9, stored::pair_at(cases, at + 7));
         print_at(cases, at, end);
         at = end;
     }

@@ -1,6 +1,7 @@
-// Replays stored runs of the Rust, with a model's counts of skipped lines: `stdin` holds questions, each a picture, then the limit in four bytes, the mode, the
-// stack's room, the output's room and the input's length, a byte each, and the input; `stdout` has a line for each: the
-// run's twelve numbers, the stack from its top, and a kind and a value for each output.
+// Replays stored runs of the Rust, with a model's counts of skipped lines: `stdin` holds questions, each a picture, then the
+// limit in four bytes, the mode, the stack's room and the output's room, a byte each, the input's length in two, the lower
+// first, and the input; `stdout` has a line for each: the run's twelve numbers, the stack from its top, and a kind and a value
+// for each output.
 ghost use Prim.Native.Nat.{_≤_};
 ghost use lib.ListN.{length};
 use cfg::Built;
@@ -59,7 +60,7 @@ fn print_run(
     kinds: &mut [u8],
     values: &mut [i64],
 )
-    requires { ⌜ 8 ≤ length (now question) ⌝ }
+    requires { ⌜ 9 ≤ length (now question) ⌝ }
 {
     let mut answer = [0u64; 12];
     let limit = limit_of(question[0], question[1], question[2], question[3]);
@@ -69,7 +70,7 @@ fn print_run(
         exits,
         limit,
         question[4] == 1,
-        &question[8..],
+        &question[9..],
         stack,
         kinds,
         values,
@@ -85,7 +86,7 @@ fn print_run(
 }
 
 fn lend_and_run(n: usize, rows: &[u32], exits: &[u32], question: &[u8])
-    requires { ⌜ 8 ≤ length (now question) ⌝ }
+    requires { ⌜ 9 ≤ length (now question) ⌝ }
 {
     let mut stack = [0i64; 256];
     let mut kinds = [0u8; 256];
@@ -107,7 +108,7 @@ fn print_question(picture: &[u8], question: &[u8]) {
     if picture.len() < 3 {
         return;
     }
-    if question.len() < 8 {
+    if question.len() < 9 {
         return;
     }
     let mut map = [0u32; 1024];
@@ -144,15 +145,10 @@ fn question_end(records: &[u8], at: usize) -> usize
     ensures above { λ r. ⌜ at ≤ r ⌝ }
     ensures within { λ r. ⌜ r ≤ length (now (records .entry)) ⌝ }
 {
-    let left = records.len() - at;
-    if left < 8 {
+    if records.len() - at < 9 {
         return records.len();
     }
-    let input = stored::wide(records[at + 7]);
-    if left - 8 < input {
-        return records.len();
-    }
-    at + 8 + input
+    stored::record_end(records, at + 9, stored::pair_at(records, at + 7))
 }
 
 fn print_records(records: &[u8]) {

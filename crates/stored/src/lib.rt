@@ -1,6 +1,6 @@
 // The records of the replay programs, and how their cells are printed.
 ghost use mathlib.Core.Path.{_≡_};
-ghost use Prim.Native.Nat.{_<_, _≤_};
+ghost use Prim.Native.Nat.{_+_, _<_, _≤_};
 ghost use lib.ListN.{length};
 use libc::STDOUT_FILENO;
 
@@ -9,6 +9,14 @@ pub fn wide(b: u8) -> usize
     ensures small { λ r. ⌜ r ≤ 255 ⌝ }
 {
     b as usize
+}
+
+// Two bytes as a number, the lower first.
+pub fn pair_at(records: &[u8], at: usize) -> usize
+    requires { ⌜ at + 2 ≤ length (now records) ⌝ }
+    ensures { λ r. ⌜ r < 65536 ⌝ }
+{
+    wide(records[at]) + 256 * wide(records[at + 1])
 }
 
 // Where a record ends that has so many bytes from `body` on; a cut one ends with the records.

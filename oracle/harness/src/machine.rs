@@ -104,7 +104,8 @@ fn counted<T: Display>(values: &[T]) -> String {
     format!("{}{}", values.len(), each.collect::<String>())
 }
 
-fn interpreter<'a>(cfg: &'a CFG, terms: &Terms) -> Interpreter<'a> {
+/// The Rust's machine before its first step.
+pub fn interpreter<'a>(cfg: &'a CFG, terms: &Terms) -> Interpreter<'a> {
     let settings = InterpreterSettings {
         verbosity: Verbosity::Low,
         max_steps: Some(terms.limit),

@@ -1,6 +1,6 @@
 //! What is measured on.
 use harness::numbers::palette;
-use harness::paint::{row, row_over_white};
+use harness::paint::{row, row_over_white, Op};
 use harness::picture::Picture;
 use harness::random::Random;
 use piet_core::instruction::Instruction::*;
@@ -107,6 +107,15 @@ pub fn programs() -> Vec<(&'static str, Picture)> {
         ("sliding", sliding()),
         ("mixed", row_over_white(&mixed)),
     ]
+}
+
+/// Two loops that leave one number more on the stack each time round, the one above the last, and then roll twice the product of
+/// the factors deep, by 1 and by the product. But for that count they execute the same instructions.
+pub fn rolls([p, q]: [usize; 2]) -> [Vec<Op>; 2] {
+    let one_more = [(Dup, 1), (Push, 1), (Add, 1)];
+    let depth = [(Push, p), (Push, q), (Mul, 1), (Push, 2), (Mul, 1)];
+    let counts = [[(Push, p), (Push, p), (Div, 1)], [(Push, p), (Push, q), (Mul, 1)]];
+    counts.map(|by| [&one_more[..], &depth, &by, &[(Roll, 1), (Push, 1), (Ptr, 1)]].concat())
 }
 
 /// Two blocks at the ends of a white row.

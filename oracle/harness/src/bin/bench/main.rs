@@ -7,6 +7,8 @@ mod classifying;
 mod files;
 #[allow(dead_code, reason = "a part alone uses some of it")]
 mod inputs;
+#[cfg(feature = "roll")]
+mod rolling;
 #[cfg(feature = "run")]
 mod running;
 mod timing;
@@ -20,6 +22,8 @@ const PARTS: &[(&str, &str, fn())] = &[
     ("build", "Rust", building::measure),
     #[cfg(feature = "run")]
     ("run", "Rust", running::measure),
+    #[cfg(feature = "roll")]
+    ("roll", "Rust", rolling::measure),
     #[cfg(feature = "p6")]
     ("p6", "copy", files::measure),
 ];

@@ -28,7 +28,7 @@ fn run(name: &str, picture: &Picture) {
     line(&format!("run, {name}"), "million steps/s", rates, rust / ours);
 }
 
-fn table(built: &Built) -> Table {
+pub fn table(built: &Built) -> Table {
     let (rows, exits) = (built.rows.as_flattened(), built.exits.as_flattened());
     Table { n: built.rows.len(), rows: rows.to_vec(), exits: exits.to_vec() }
 }

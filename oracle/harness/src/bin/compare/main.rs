@@ -11,6 +11,8 @@ mod forever;
 mod label;
 #[cfg(feature = "picture")]
 mod picturing;
+#[cfg(feature = "roll")]
+mod rolling;
 #[cfg(feature = "run")]
 mod running;
 #[cfg(any(feature = "forever", feature = "run"))]
@@ -31,6 +33,8 @@ const PARTS: &[(&str, fn() -> Checked)] = &[
     ("forever", forever::compare),
     #[cfg(feature = "run")]
     ("run", running::compare),
+    #[cfg(feature = "roll")]
+    ("roll", rolling::compare),
     #[cfg(feature = "picture")]
     ("picture", picturing::compare),
 ];

@@ -13,7 +13,7 @@ const BY_CHANCE: usize = 2_000_000;
 const LONGEST: u32 = 8;
 
 #[derive(Clone)]
-struct Running {
+pub struct Running {
     question: Question,
     spoil: Spoil,
     longer: Longer,
@@ -115,6 +115,12 @@ pub fn cells(space: &Space) -> [Named; 3] {
 }
 
 impl Running {
+    /// In slices that are just as long as asked for, and nothing spoilt.
+    #[cfg(feature = "roll")]
+    pub fn plain(question: Question) -> Self {
+        Running { question, spoil: Spoil::None, longer: [0, 0], answer: RUN_ANSWER }
+    }
+
     fn space(&self) -> Space {
         space(&self.question.room, self.longer)
     }

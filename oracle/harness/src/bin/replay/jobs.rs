@@ -19,10 +19,10 @@ const INSTRUCTIONS: [Instruction; 17] = [
 pub const ROOM: Room = Room { stack: 16, outputs: 8 };
 
 pub fn jobs() -> Vec<Question> {
-    [for_the_run_program(), skipping::jobs()].concat()
+    [for_the_run_program(), skipping::jobs(), deep_rolls()].concat()
 }
 
-/// All but those that are there for the counts of skipped lines, which the run program does not print.
+/// All but those that are there for the counts of skipped lines, which the run program does not print, and the deep Rolls.
 pub fn for_the_run_program() -> Vec<Question> {
     let mut all = document();
     all.extend(depths());
@@ -119,6 +119,19 @@ fn rolls() -> Vec<Question> {
     all.push(on_numbers(&[4, 5, 6, 3, -1], &[Roll], 0));
     all.push(on_numbers(&[1, 1], &[Roll], 0));
     all
+}
+
+/// Roll of 200 values, all different, by counts about none and all of them, and at the ends of the range. The Rust panics on
+/// -2^63; `answers` asks it for the residue.
+fn deep_rolls() -> Vec<Question> {
+    const DEPTH: i64 = 200;
+    let counts = [1, DEPTH - 1, DEPTH, -1, i64::MIN, i64::MAX];
+    let rolled = |a: i64| {
+        let numbers: Vec<i64> = (1..=DEPTH).chain([DEPTH, a]).collect();
+        let room = Room { stack: numbers.len(), ..ROOM };
+        Question { room, ..on_numbers(&numbers, &[Roll], 0) }
+    };
+    counts.map(rolled).into()
 }
 
 /// Runs that just fit and just do not.

@@ -1,6 +1,6 @@
 //! Pictures and run questions as bytes. A picture is its height, width and codel width, a byte each,
 //! and a byte for each pixel's colour. A run question is a picture, the limit in four bytes, the
-//! mode, the stack's room, the output's room and the input's length, a byte each, and the input.
+//! mode, the stack's room and the output's room, a byte each, the input's length in two, and the input.
 use harness::machine::Room;
 use harness::picture::Picture;
 use harness::question::Question;
@@ -11,9 +11,11 @@ pub fn picture_record(p: &Picture) -> Vec<u8> {
 
 pub fn question_record(q: &Question) -> Vec<u8> {
     let limit = u32::try_from(q.limit).expect("a limit fits four bytes");
+    let length = u16::try_from(q.input.len()).expect("an input's length fits two bytes");
     let Room { stack, outputs } = q.room;
-    let rest = [q.is_abstract as u8, byte(stack), byte(outputs), byte(q.input.len())];
-    [&picture_record(&q.picture)[..], &limit.to_le_bytes(), &rest, &q.input].concat()
+    let rest = [q.is_abstract as u8, byte(stack), byte(outputs)];
+    let numbers = [&limit.to_le_bytes()[..], &rest, &length.to_le_bytes()].concat();
+    [picture_record(&q.picture), numbers, q.input.clone()].concat()
 }
 
 fn byte<N: TryInto<u8>>(number: N) -> u8 {
@@ -45,7 +47,8 @@ impl<'a> Reader<'a> {
     pub fn question(&mut self) -> Option<Question> {
         let picture = self.picture()?;
         let limit = u32::from_le_bytes(self.numbers()?) as u64;
-        let [mode, stack, outputs, length] = self.numbers()?.map(usize::from);
+        let [mode, stack, outputs] = self.numbers()?.map(usize::from);
+        let length = u16::from_le_bytes(self.numbers()?) as usize;
         let (room, input) = (Room { stack, outputs }, self.take(length)?.to_vec());
         Some(Question { picture, limit, is_abstract: mode == 1, room, input })
     }
