@@ -1,10 +1,10 @@
--- What one Roll costs (rule 9.11): its exchanges write each of the n cells that turn at most twice and no other, whatever a is, and what
--- `roll` leaves in the cells is what these exchanges make of them.
---     roll-twice, roll-elsewhere    each cell
---     roll-few                      all of them
---     roll-is                       the contract of `roll` and the exchanges agree on every cell
+-- What one Roll costs (rule 9.11): its exchanges write each of the cells that turn at most twice and no other cell, whatever a is, and what
+-- `roll` leaves in the cells is what its exchanges make of them.
+--     roll-twice, roll-elsewhere    how often a cell is written
+--     roll-few                      how many exchanges there are
+--     roll-exchanged                what the contract of `roll` settles is what they make
 -- Assumes nothing.
-use mathlib.Core.Path.{_≡_, refl, sym, ap, _∙_}
+use mathlib.Core.Path.{_≡_, refl, ap, _∙_}
 use mathlib.Core.List.{List, [], _∷_, _++_}
 use mathlib.Core.Bool.{Bool, true, false, cond}
 use mathlib.Core.Logic.{_⊎_, inl, inr}
@@ -22,7 +22,7 @@ use Rattle.stack.specs.Instr as Instr
 use Rattle.stack.specs.Instr.{places}
 use Rattle.stack.specs.Exchange.{Exchanges, exchanged, inward, reversal, threeReversals, rollExchanges, writesTo}
 use Rattle.stack.proofs.Cells.{pops-at, pop-pop, then, two, stackOf-length}
-use Rattle.stack.proofs.Rolling.{places-le, roll-none, roll-some}
+use Rattle.stack.proofs.Rolling.{some, places-le, roll-none, roll-some}
 use Rattle.stack.proofs.Exchanging.{turns, length-exchanged}
 use Rattle.stack.proofs.Only.{does-only}
 
@@ -66,11 +66,11 @@ once (suc m) lo hi i h = go (eqb i lo) (eqb i (hi - 1)) refl refl (writesTo i (i
         omega (arith, a (omega arith))
     go false false e f w b a r = omega arith
 
--- the same of a reversal
-module _ (lo hi i : ℕ) (h : lo ≤ hi) where
-  half : (lo hi : ℕ) → lo ≤ hi → lo + 2 * ((hi - lo) / 2) ≤ hi
-  half lo hi h = omega arith
+-- the pairs of a reversal do not meet, so that the same holds of it
+half : (lo hi : ℕ) → lo ≤ hi → lo + 2 * ((hi - lo) / 2) ≤ hi
+half lo hi h = omega arith
 
+module _ (lo hi i : ℕ) (h : lo ≤ hi) where
   reversal-below : i < lo → writesTo i (reversal lo hi) ≡ 0
   reversal-below = below ((hi - lo) / 2) lo hi i (half lo hi h)
 
@@ -120,13 +120,6 @@ module _ (d n k : ℕ) (kn : k ≤ n) (nd : n ≤ d) where
   unfolding threeReversals
   turn-few = simp (length-append, inward-length) (omega arith)
 
--- the test of whether any value turns
-some-turn : (m : ℕ) → eqb m 0 ≡ false → 0 < m
-some-turn m e = go m (eqb-false m 0 e)
-  where
-    go : (m : ℕ) → (m ≡ 0 → ⊥) → 0 < m
-    go m h = omega arith
-
 -- a Roll of a and n over the values s
 module _ (a n : ℤ) (s : List ℤ) where
   abbrev turned : ℕ
@@ -135,11 +128,11 @@ module _ (a n : ℤ) (s : List ℤ) where
   -- what holds of no exchange, and of three reversals by any count of places, holds of its exchanges
   by-reversals : (P : Exchanges → Type 0) → P [] → ((k : ℕ) → k ≤ turned → P (threeReversals (length s) turned k)) → P (rollExchanges (a ∷ (n ∷ s)))
   unfolding rollExchanges
-  by-reversals P none some = go (eqb turned 0) refl
+  by-reversals P none reversed = go (eqb turned 0) refl
     where
       go : (t : Bool) → eqb turned 0 ≡ t → P (cond t [] (threeReversals (length s) turned (residue a turned)))
       go true e = none
-      go false e = some (residue a turned) (omega (arith, residue-lt a turned (some-turn turned e)))
+      go false e = reversed (residue a turned) (omega (arith, residue-lt a turned (some turned (eqb-false turned 0 e))))
 
   -- each cell is written at most twice ..
   pub roll-twice : (i : ℕ) → writesTo i (rollExchanges (a ∷ (n ∷ s))) ≤ 2
@@ -155,7 +148,12 @@ module _ (a n : ℤ) (s : List ℤ) where
   pub roll-few : length (rollExchanges (a ∷ (n ∷ s))) ≤ turned
   roll-few = by-reversals (λ ps. length ps ≤ turned) (omega arith) (λ k h. turn-few (length s) turned k h (places-le n (length s)))
 
--- the cells after a Roll: those of a and n are cleared, and then the exchanges are made
+-- three values by 1: the two lower ones change places, then the lowest and the uppermost
+pub example : rollExchanges (pos 1 ∷ pos 3 ∷ pos 6 ∷ pos 5 ∷ pos 4 ∷ []) ≡ (0, 1) ∷ (0, 2) ∷ []
+unfolding rollExchanges threeReversals inward places residue
+example = refl
+
+-- the cells after a Roll: those of a and n are cleared, one write each, and then the exchanges are made
 module _ (c : List ℤ) (d : ℕ) (h : 2 ≤ d) (l : Lies c d) where
   abbrev cleared : List ℤ
   cleared = set (set c (d - 1) (pos 0)) (d - 2) (pos 0)
@@ -181,12 +179,12 @@ module _ (c : List ℤ) (d : ℕ) (h : 2 ≤ d) (l : Lies c d) where
       go : (t : Bool) → eqb m 0 ≡ t → Does Instr.roll c d (exchanged (cond t [] (threeReversals (d - 2) m (residue a m))) cleared) (d - 2)
       go true e = roll-none h clears (eqb-true m 0 e)
       go false e =
-          let g = some-turn m e in
+          let g = some m (eqb-false m 0 e) in
           roll-some h clears m (residue a m) refl g refl
           (turns cleared (d - 2) m (residue a m) (omega (arith, residue-lt a m g)) (places-le (getD c (d - 2) (pos 0)) (d - 2)) (clears .lies))
 
-  pub roll-is : (c′ : List ℤ) (d′ : ℕ) → length c′ ≡ length c → Does Instr.roll c d c′ d′
+  pub roll-exchanged : (c′ : List ℤ) (d′ : ℕ) → length c′ ≡ length c → Does Instr.roll c d c′ d′
       → c′ ≡ exchanged (rollExchanges (stackOf c d)) cleared
-  roll-is c′ d′ e p =
+  roll-exchanged c′ d′ e p =
       does-only Instr.roll c d c′ (exchanged (rollExchanges (stackOf c d)) cleared) e
       (length-exchanged (rollExchanges (stackOf c d)) cleared ∙ simp length-set) d′ (d - 2) p does-roll .1

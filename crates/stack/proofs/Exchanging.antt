@@ -1,11 +1,11 @@
 -- Exchanges from both ends inward mirror a part, and three such parts turn the top of a stack. Assumes nothing.
 use mathlib.Core.Path.{_≡_, refl, sym, ap, _∙_}
 use mathlib.Core.List.{List, [], _∷_, _++_}
-use Prim.Native.Nat.{ℕ, zero, suc, _+_, _-_, _*_, _/_, _<_, _≤_}
+use Prim.Native.Nat.{ℕ, zero, suc, _+_, _-_, _/_, _<_, _≤_}
 use native.Mathlib.Omega.{arith}
 use native.Mathlib.Numerals.{add-one}
-use lib.ListN.{length, getD, set, length-set}
-use lib.IntN.{ℤ, pos}
+use lib.ListN.{length, length-set}
+use lib.IntN.{ℤ}
 use Rattle.stack.specs.Stack.{Lies, Does}
 use Rattle.stack.specs.Instr as Instr
 use Rattle.stack.specs.Exchange.{Exchanges, exchange, exchanged, inward, reversal, threeReversals}

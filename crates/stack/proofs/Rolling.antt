@@ -20,6 +20,10 @@ few-roll cells zero h l = record { lies = l; is = refl }
 few-roll cells (suc zero) h l = record { lies = l; is = refl }
 few-roll cells (suc (suc d)) h l = absurd (omega arith)
 
+-- some values turn where not none do
+pub some : (m : ℕ) → (m ≡ 0 → ⊥) → 0 < m
+some m h = omega arith
+
 pub places-le : (n : ℤ) (d : ℕ) → places n d ≤ d
 unfolding places
 places-le (negsuc n) d = omega arith

@@ -1,8 +1,8 @@
--- `stack::reverse` meets its contract. The loop's invariant: the exchanges that are left give what all of them give. Assumes
--- nothing.
+-- `stack::reverse` meets its contract. The loop's invariant: the exchanges that are left give what all of them give. Its measure is how
+-- many are left, so that it turns no more often than there are pairs. Assumes nothing.
 use mathlib.Core.Path.{_≡_, sym, ap, _∙_}
 use mathlib.Core.List.{List}
-use Prim.Native.Nat.{ℕ, _+_, _-_, _<_, _≤_}
+use Prim.Native.Nat.{ℕ, _+_, _-_, _/_, _<_, _≤_}
 use native.Mathlib.Omega.{arith}
 use borrow.Author.Needs.{needs}
 use lib.ListN.{length, getD, set, length-set}
@@ -19,7 +19,7 @@ Inv-loop s₀ lo hi i₀ j₀ s i j = (i ≤ j) × (j ≤ length s) × (length s
     × (exchanged (reversal i j) s ≡ exchanged (reversal lo hi) s₀)
 
 abbrev μ-loop : tie.MeasureT-loop
-μ-loop s₀ lo hi i₀ j₀ s i j = j - i
+μ-loop s₀ lo hi i₀ j₀ s i j = (j - i) / 2
 
 loop-holds : tie.Need-loop-holds Inv-loop μ-loop
 loop-holds c = search needs

@@ -1,6 +1,6 @@
 -- `stack::roll` meets its contract. Assumes nothing.
 use mathlib.Core.Path.{_≡_, sym, _∙_}
-use Prim.Native.Nat.{ℕ, _-_, _^_, _<_, _≤_}
+use Prim.Native.Nat.{_-_, _^_, _<_, _≤_}
 use native.Mathlib.Omega.{arith}
 use borrow.Author.Needs.{needs}
 use lib.ListN.{getD}
@@ -10,7 +10,7 @@ use Rattle.word.specs.Word.{residue}
 use Rattle.word.proofs.Signed.{back}
 use Rattle.word.proofs.Wrapping.{residue-lt}
 use Rattle.stack.specs.Instr as Instr
-use Rattle.stack.proofs.Rolling.{few-roll, places-le, roll-none, roll-some}
+use Rattle.stack.proofs.Rolling.{few-roll, some, places-le, roll-none, roll-some}
 use Rattle.stack.proofs.Exchanging.{turns}
 use Rattle.stack.proofs.roll.Statement.{statement}
 use Rattle.stack.proofs.roll.Tie as tie
@@ -35,10 +35,7 @@ fits c =
     let l = places-le (second s) (q .result) in
     let e = places-is (c .before) in
     let r = q .ensures .lies .room in
-    (above (c .before .places .result) (c .if2 .left), omega (arith, s .good, q .kept), omega arith)
-  where
-    above : (m : ℕ) → (m ≡ 0 → ⊥) → 0 < m
-    above m h = omega arith
+    (some (c .before .places .result) (c .if2 .left), omega (arith, s .good, q .kept), omega arith)
 
 residue-is : (c : tie.After-residue)
     → c .residue .result ≡ residue (top (c .before .before .before .before .before .before .before .before .before)) (c .before .before .places .result)
