@@ -1,7 +1,7 @@
 -- What one Roll costs (rule 9.11): its exchanges write each of the cells that turn at most twice and no other cell, whatever a is, and what
--- `roll` leaves in the cells is what its exchanges make of them.
+-- `roll` leaves in the cells is what its exchanges make of them once those of a and n are cleared.
 --     roll-twice, roll-elsewhere    how often a cell is written
---     roll-few                      how many exchanges there are
+--     roll-few                      how many writes there are in all
 --     roll-exchanged                what the contract of `roll` settles is what they make
 -- Assumes nothing.
 use mathlib.Core.Path.{_≡_, refl, ap, _∙_}
@@ -125,7 +125,7 @@ module _ (a n : ℤ) (s : List ℤ) where
   abbrev turned : ℕ
   turned = places n (length s)
 
-  -- what holds of no exchange, and of three reversals by any count of places, holds of its exchanges
+  -- what holds of the empty list of exchanges, and of three reversals by any count of places, holds of its exchanges
   by-reversals : (P : Exchanges → Type 0) → P [] → ((k : ℕ) → k ≤ turned → P (threeReversals (length s) turned k)) → P (rollExchanges (a ∷ (n ∷ s)))
   unfolding rollExchanges
   by-reversals P none reversed = go (eqb turned 0) refl
@@ -144,9 +144,9 @@ module _ (a n : ℤ) (s : List ℤ) where
   unfolding writesTo
   roll-elsewhere i o = by-reversals (λ ps. writesTo i ps ≡ 0) refl (λ k h. turn-elsewhere (length s) turned k h (places-le n (length s)) i o)
 
-  -- as many exchanges as values turn at the most, so two writes for each of them
-  pub roll-few : length (rollExchanges (a ∷ (n ∷ s))) ≤ turned
-  roll-few = by-reversals (λ ps. length ps ≤ turned) (omega arith) (λ k h. turn-few (length s) turned k h (places-le n (length s)))
+  -- an exchange is two writes, and there are at most two writes for each value that turns
+  pub roll-few : 2 * length (rollExchanges (a ∷ (n ∷ s))) ≤ 2 * turned
+  roll-few = by-reversals (λ ps. 2 * length ps ≤ 2 * turned) (omega arith) (λ k h. omega (arith, turn-few (length s) turned k h (places-le n (length s))))
 
 -- three values by 1: the two lower ones change places, then the lowest and the uppermost
 pub example : rollExchanges (pos 1 ∷ pos 3 ∷ pos 6 ∷ pos 5 ∷ pos 4 ∷ []) ≡ (0, 1) ∷ (0, 2) ∷ []

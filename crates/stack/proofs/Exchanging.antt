@@ -33,7 +33,7 @@ unfolding exchanged exchange
 length-exchanged [] c = refl
 length-exchanged (p ∷ ps) c = length-exchanged ps (exchange (p .0) (p .1) c) ∙ simp length-set
 
-pub one-after-the-other : (ps qs : Exchanges) (c : List ℤ) → exchanged (ps ++ qs) c ≡ exchanged qs (exchanged ps c)
+one-after-the-other : (ps qs : Exchanges) (c : List ℤ) → exchanged (ps ++ qs) c ≡ exchanged qs (exchanged ps c)
 unfolding exchanged
 one-after-the-other [] qs c = refl
 one-after-the-other (p ∷ ps) qs c = one-after-the-other ps qs (exchange (p .0) (p .1) c)
@@ -47,7 +47,7 @@ reverses (suc m) lo hi c e h l =
     ∙ reverses m (lo + 1) (hi - 1) (exchange lo (hi - 1) c) (omega arith) (omega arith) (simp length-set (omega arith))
     ∙ mirror-step c lo hi (omega arith) l
 
-pub reversed : (lo hi : ℕ) (c : List ℤ) → lo ≤ hi → hi ≤ length c → exchanged (reversal lo hi) c ≡ mirrored lo hi c
+reversed : (lo hi : ℕ) (c : List ℤ) → lo ≤ hi → hi ≤ length c → exchanged (reversal lo hi) c ≡ mirrored lo hi c
 reversed lo hi c h l = reverses ((hi - lo) / 2) lo hi c refl h l
 
 -- the three reversals one after the other, as the code makes them

@@ -6,6 +6,7 @@ use native.Mathlib.Omega.{arith}
 use lib.ListN.{length, getD, set, take, drop, length-append, length-drop, length-take, take-append-drop}
 use lib.Seq.{take-at, drop-at, set-at, split-at, getD-drop, length-take-le, drop-drop}
 use lib.IntN.{ℤ, pos}
+use Rattle.stack.specs.Exchange.{exchange}
 
 -- the cells from lo up to hi in the opposite order
 unfoldable pub mirrored : ℕ → ℕ → List ℤ → List ℤ
@@ -64,7 +65,8 @@ cut c i j h l =
     place i j h = omega arith
 
 pub mirror-step : (c : List ℤ) (i j : ℕ) → i + 1 < j → j ≤ length c
-    → mirrored (i + 1) (j - 1) (set (set c i (getD c (j - 1) (pos 0))) (j - 1) (getD c i (pos 0))) ≡ mirrored i j c
+    → mirrored (i + 1) (j - 1) (exchange i (j - 1) c) ≡ mirrored i j c
+unfolding exchange
 mirror-step c i j h l =
     go c (take i c) (parts c i j) (drop (suc (j - 2 - i)) (drop (suc i) c)) (getD c i (pos 0)) (getD c (j - 1) (pos 0)) (cut c i j h l)
     (length-take-le i c (omega arith))

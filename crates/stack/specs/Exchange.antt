@@ -1,5 +1,4 @@
--- How Roll moves its values: by exchanges of two cells, each of which writes each of the two once (rule 9.11).
--- Assumes nothing.
+-- How Roll moves its values: by exchanging two cells at a time (rule 9.11). Assumes nothing.
 use mathlib.Core.Bool.{cond}
 use mathlib.Core.List.{List, [], _∷_, _++_}
 use Prim.Native.Nat.{ℕ, zero, suc, _+_, _-_, _/_}
@@ -9,14 +8,15 @@ use lib.IntN.{ℤ, pos}
 use Rattle.word.specs.Word.{residue}
 use Rattle.stack.specs.Instr.{places}
 
--- pairs of cells that change places, one pair after the other
+-- pairs of cells, by their index (cell 0 is the bottom), that change places, one pair after the other
 abbrev pub Exchanges : Type 0
 Exchanges = List (ℕ × ℕ)
 
--- the cells after two of them have changed places: one write to each
+-- the cells after two of them have changed places: one write to each of the two
 unfoldable pub exchange : ℕ → ℕ → List ℤ → List ℤ
 exchange i j c = set (set c i (getD c j (pos 0))) j (getD c i (pos 0))
 
+-- the cells after all of these, the first pair first
 unfoldable pub exchanged : Exchanges → List ℤ → List ℤ
 exchanged [] c = c
 exchanged (p ∷ ps) c = exchanged ps (exchange (p .0) (p .1) c)
@@ -34,13 +34,14 @@ reversal lo hi = inward ((hi - lo) / 2) lo hi
 unfoldable pub threeReversals : ℕ → ℕ → ℕ → Exchanges
 threeReversals d n k = reversal (d - n) (d - k) ++ reversal (d - k) d ++ reversal (d - n) d
 
--- those of a Roll on a stack written top first, after a and n are gone; none where no value turns
+-- the exchanges of a Roll, by the stack before it, top first: a, the depth n and the values s, of which a and n are taken off before the
+-- exchanges; none where no value turns
 unfoldable pub rollExchanges : List ℤ → Exchanges
 rollExchanges [] = []
 rollExchanges (a ∷ []) = []
 rollExchanges (a ∷ (n ∷ s)) = let m = places n (length s) in cond (eqb m 0) [] (threeReversals (length s) m (residue a m))
 
--- how often they write a cell
+-- how often they write the cell i
 unfoldable pub writesTo : ℕ → Exchanges → ℕ
 writesTo i [] = 0
 writesTo i (p ∷ ps) = cond (eqb i (p .0)) 1 0 + cond (eqb i (p .1)) 1 0 + writesTo i ps

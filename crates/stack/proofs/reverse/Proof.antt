@@ -1,5 +1,5 @@
 -- `stack::reverse` meets its contract. The loop's invariant: the exchanges that are left give what all of them give. Its measure is how
--- many are left, so that it turns no more often than there are pairs. Assumes nothing.
+-- many are left, so that it goes round no more often than there are pairs. Assumes nothing.
 use mathlib.Core.Path.{_≡_, sym, ap, _∙_}
 use mathlib.Core.List.{List}
 use Prim.Native.Nat.{ℕ, _+_, _-_, _/_, _<_, _≤_}

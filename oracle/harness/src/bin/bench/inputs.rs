@@ -109,8 +109,8 @@ pub fn programs() -> Vec<(&'static str, Picture)> {
     ]
 }
 
-/// Two loops that leave one number more on the stack each time round, the one above the last, and then roll twice the product of
-/// the factors deep, by 1 and by the product. But for that count they execute the same instructions.
+/// Two loops that put the top and 1 on the stack as a sum each time round, at first 1, and then roll twice the product of the
+/// factors deep, by 1 and by the product. They differ in the instructions that make the count: as many, with one Div or Mul.
 pub fn rolls([p, q]: [usize; 2]) -> [Vec<Op>; 2] {
     let one_more = [(Dup, 1), (Push, 1), (Add, 1)];
     let depth = [(Push, p), (Push, q), (Mul, 1), (Push, 2), (Mul, 1)];

@@ -9,7 +9,7 @@ use harness::picture::build;
 use piet_core::cfg::CFG;
 use piet_core::instruction::Instruction::Roll;
 
-/// Two factors of half the depth, each.
+/// Each depth by two factors of its half, since Push pushes a block's size.
 const DEPTHS: [[usize; 2]; 2] = [[25, 4], [229, 131]];
 /// How many are timed together.
 const ROLLS: usize = 200;
@@ -25,12 +25,13 @@ pub fn measure() {
             line(&name, "ns/Roll", costs.map(|seconds| 1e9 * seconds), costs[0] / costs[1]);
             costs
         });
-        let factors = [0, 1].map(|who| costs[1][who] / costs[0][who]);
-        both(&format!("roll, {depth} deep, by half / by 1"), factors);
+        let growth = [0, 1].map(|who| costs[1][who] / costs[0][who]);
+        both(&format!("roll, {depth} deep, by half / by 1"), growth);
     }
 }
 
-/// Seconds of the Rust's instruction alone, with the two values that it takes put on before it.
+/// Seconds of the Rust's instruction and of putting on the two values that it takes: the Roll before it leaves its stack no
+/// room, so that it grows each time.
 fn rust(depth: usize, by: usize) -> f64 {
     let cfg = CFG::new();
     let mut machine = interpreter(&cfg, &terms(0));
@@ -47,7 +48,7 @@ fn rust(depth: usize, by: usize) -> f64 {
 }
 
 /// Seconds of ours, which only a run reaches: what a round that rolls takes more than one for which the stack is not deep
-/// enough yet.
+/// enough yet. Putting the two values on and taking them off is in both.
 fn ours(depth: usize, program: &[Op]) -> f64 {
     let built = build(&row_over_white(program));
     let table = table(&built);
@@ -63,8 +64,8 @@ fn ours(depth: usize, program: &[Op]) -> f64 {
 
 /// Seconds of a run, and the values that it leaves, one a round.
 fn timed(table: &Table, limit: u64, rounds: usize) -> (f64, Vec<i64>) {
-    // Within a round there are at most four values more.
-    let mut space = Space { stack: vec![0; rounds + 4], kinds: vec![], values: vec![] };
+    // Within a round there are at most three values more than after it.
+    let mut space = Space { stack: vec![0; rounds + 3], kinds: vec![], values: vec![] };
     let mut answer = [0; RUN_ANSWER];
     let seconds = fastest(|| {
         assert_eq!(library::run(table, &terms(limit), &mut space, &mut answer), 0);

@@ -25,7 +25,7 @@ pub fn line(name: &str, unit: &str, [other, ours]: [f64; 2], ratio: f64) {
     println!("{:44}{other:>14.3}{ours:>14.3}{ratio:>10.2}", format!("{name}, {unit}"));
 }
 
-/// A line of two numbers that stand for themselves.
+/// A line with a number of each and no ratio.
 #[cfg(feature = "roll")]
 pub fn both(name: &str, [other, ours]: [f64; 2]) {
     println!("{name:44}{other:>14.3}{ours:>14.3}");

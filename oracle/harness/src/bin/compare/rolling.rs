@@ -40,7 +40,7 @@ fn depth(random: &mut Random, values: i64) -> i64 {
     }
 }
 
-/// About none, about all and about half of the depth, to either side; at the ends of the range; or any.
+/// About none, half, all and three times the depth, to either side; at the ends of the range; or any.
 fn count(random: &mut Random, depth: i64) -> i64 {
     let about = random.pick(&[0, depth, depth / 2, 3_i64.wrapping_mul(depth)]);
     let near = about.wrapping_add(random.below(5) as i64 - 2);

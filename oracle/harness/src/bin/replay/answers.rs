@@ -24,7 +24,7 @@ pub fn run(question: &Question) -> Result<String, String> {
 }
 
 /// Where an input ends with a depth and -2^63, the same with the residue in its place, which the rules choose for Roll
-/// (9.8). It is written in as many digits, so that as many bytes are used.
+/// (9.8). Zeros stand before it, so that as many bytes are used.
 fn by_residue(question: &Question) -> Option<Question> {
     let text = str::from_utf8(&question.input).ok()?;
     let (before, count) = text.strip_suffix('\n')?.rsplit_once('\n')?;

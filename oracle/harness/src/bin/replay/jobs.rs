@@ -1,4 +1,5 @@
-//! The run questions that are replayed. Those that the Rust does not answer are left out.
+//! The run questions that are replayed. Those that the Rust does not answer are left out, but for one deep Roll, which it
+//! answers by the residue.
 use crate::skipping;
 use harness::machine::Room;
 use harness::paint::{drawn, ops, row, row_over_white, Op};
@@ -122,7 +123,7 @@ fn rolls() -> Vec<Question> {
 }
 
 /// Roll of 200 values, all different, by counts about none and all of them, and at the ends of the range. The Rust panics on
-/// -2^63; `answers` asks it for the residue.
+/// -2^63; `answers` asks it by the residue.
 fn deep_rolls() -> Vec<Question> {
     const DEPTH: i64 = 200;
     let counts = [1, DEPTH - 1, DEPTH, -1, i64::MIN, i64::MAX];
