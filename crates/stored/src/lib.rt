@@ -1,7 +1,7 @@
 // The records of the replay programs, and how their cells are printed.
 ghost use mathlib.Core.Path.{_≡_};
-ghost use Prim.Native.Nat.{_+_, _<_, _≤_};
-ghost use lib.ListN.{length};
+ghost use Prim.Native.Nat.{_+_, _*_, _<_, _≤_};
+ghost use lib.ListN.{length, getD};
 use libc::STDOUT_FILENO;
 
 pub fn wide(b: u8) -> usize
@@ -14,7 +14,8 @@ pub fn wide(b: u8) -> usize
 // Two bytes as a number, the lower first.
 pub fn pair_at(records: &[u8], at: usize) -> usize
     requires { ⌜ at + 2 ≤ length (now records) ⌝ }
-    ensures { λ r. ⌜ r < 65536 ⌝ }
+    ensures same { λ r. ⌜ r ≡ getD (now (records .entry)) at 0 + 256 * getD (now (records .entry)) (at + 1) 0 ⌝ }
+    ensures small { λ r. ⌜ r < 65536 ⌝ }
 {
     wide(records[at]) + 256 * wide(records[at + 1])
 }
