@@ -2,6 +2,7 @@
 -- `roll` leaves in the cells is what its exchanges make of them once those of a and n are cleared.
 --     roll-twice, roll-elsewhere    how often a cell is written
 --     roll-few                      how many writes there are in all
+--     unwritten                     what is not counted as written keeps its value
 --     roll-exchanged                what the contract of `roll` settles is what they make
 -- Assumes nothing.
 use mathlib.Core.Path.{_≡_, refl, ap, _∙_}
@@ -14,13 +15,14 @@ use native.Mathlib.Omega.{arith}
 use borrow.Author.Tests.{eqb-true, eqb-false, ne-eqb}
 use lib.Dec.{eqb}
 use lib.ListN.{length, getD, set, drop, length-append, length-set}
+use lib.Seq.{getD-set-other}
 use lib.IntN.{ℤ, pos}
 use Rattle.word.specs.Word.{residue}
 use Rattle.word.proofs.Wrapping.{residue-lt}
 use Rattle.stack.specs.Stack.{stackOf, Lies, Does}
 use Rattle.stack.specs.Instr as Instr
 use Rattle.stack.specs.Instr.{places}
-use Rattle.stack.specs.Exchange.{Exchanges, exchanged, inward, reversal, threeReversals, rollExchanges, writesTo}
+use Rattle.stack.specs.Exchange.{Exchanges, exchange, exchanged, inward, reversal, threeReversals, rollExchanges, writesTo}
 use Rattle.stack.proofs.Cells.{pops-at, pop-pop, then, two, stackOf-length}
 use Rattle.stack.proofs.Rolling.{some, places-le, roll-none, roll-some}
 use Rattle.stack.proofs.Exchanging.{turns, length-exchanged}
@@ -148,10 +150,31 @@ module _ (a n : ℤ) (s : List ℤ) where
   pub roll-few : 2 * length (rollExchanges (a ∷ (n ∷ s))) ≤ 2 * turned
   roll-few = by-reversals (λ ps. 2 * length ps ≤ 2 * turned) (omega arith) (λ k h. omega (arith, turn-few (length s) turned k h (places-le n (length s))))
 
--- three values by 1: the two lower ones change places, then the lowest and the uppermost
-pub example : rollExchanges (pos 1 ∷ pos 3 ∷ pos 6 ∷ pos 5 ∷ pos 4 ∷ []) ≡ (0, 1) ∷ (0, 2) ∷ []
-unfolding rollExchanges threeReversals inward places residue
-example = refl
+-- three values by 1: the two lower ones change places, then the lowest and the uppermost, so that cell 0 is written twice
+pub example : (rollExchanges (pos 1 ∷ pos 3 ∷ pos 6 ∷ pos 5 ∷ pos 4 ∷ []) ≡ (0, 1) ∷ (0, 2) ∷ [])
+    × (writesTo 0 ((0, 1) ∷ (0, 2) ∷ []) ≡ 2)
+    × (writesTo 1 ((0, 1) ∷ (0, 2) ∷ []) ≡ 1)
+    × (writesTo 2 ((0, 1) ∷ (0, 2) ∷ []) ≡ 1)
+    × (writesTo 3 ((0, 1) ∷ (0, 2) ∷ []) ≡ 0)
+unfolding rollExchanges threeReversals inward places residue writesTo
+example = (refl, refl, refl, refl, refl)
+
+-- a cell that is not written keeps its value
+pub unwritten : (i : ℕ) (ps : Exchanges) (c : List ℤ) → writesTo i ps ≡ 0 → getD (exchanged ps c) i (pos 0) ≡ getD c i (pos 0)
+unfolding writesTo exchanged exchange
+unwritten i [] c e = refl
+unwritten i (p ∷ ps) c e = go (eqb i (p .0)) (eqb i (p .1)) refl refl e (unwritten i ps (exchange (p .0) (p .1) c))
+  where
+    go : (s t : Bool) → eqb i (p .0) ≡ s → eqb i (p .1) ≡ t → cond s 1 0 + cond t 1 0 + writesTo i ps ≡ 0
+        → (writesTo i ps ≡ 0 → getD (exchanged ps (exchange (p .0) (p .1) c)) i (pos 0) ≡ getD (exchange (p .0) (p .1) c) i (pos 0))
+        → getD (exchanged ps (exchange (p .0) (p .1) c)) i (pos 0) ≡ getD c i (pos 0)
+    go true true f g e rest = absurd (omega arith)
+    go true false f g e rest = absurd (omega arith)
+    go false true f g e rest = absurd (omega arith)
+    go false false f g e rest =
+        rest (omega arith)
+        ∙ getD-set-other (set c (p .0) (getD c (p .1) (pos 0))) (p .1) i (getD c (p .0) (pos 0)) (pos 0) (eqb-false i (p .1) g)
+        ∙ getD-set-other c (p .0) i (getD c (p .1) (pos 0)) (pos 0) (eqb-false i (p .0) f)
 
 -- the cells after a Roll: those of a and n are cleared, one write each, and then the exchanges are made
 module _ (c : List ℤ) (d : ℕ) (h : 2 ≤ d) (l : Lies c d) where
