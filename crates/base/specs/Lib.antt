@@ -4,3 +4,4 @@ pub mod Lent
 pub mod Text
 pub mod Decides
 pub mod Limits
+pub mod Edition

@@ -1,0 +1,29 @@
+// The editions of the rules (rule 16.1).
+ghost use mathlib.Core.Path.{_≡_};
+ghost use Rattle.base.specs.Edition.{unknownEdition, editionOf};
+
+// The rules of the Rust program, and those of the public page.
+pub enum Edition {
+    Rust,
+    Page,
+}
+
+// Whether a number names no edition.
+pub fn unknown_edition(number: u32) -> bool
+    ensures { λ r. ⌜ r ≡ unknownEdition number ⌝ }
+{
+    if number == 1 {
+        return false;
+    }
+    number != 2
+}
+
+// The edition that a number names. A call refuses a number that names none before it asks for this.
+pub fn edition_of(number: u32) -> Edition
+    ensures { λ r. ⌜ r ≡ editionOf number ⌝ }
+{
+    if number == 2 {
+        return Edition::Page;
+    }
+    Edition::Rust
+}
