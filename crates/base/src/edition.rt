@@ -8,6 +8,9 @@ pub enum Edition {
     Page,
 }
 
+// The number of the refusal of a number that names none.
+pub const UNKNOWN_EDITION: u32 = 15;
+
 // Whether a number names no edition.
 pub fn unknown_edition(number: u32) -> bool
     ensures { λ r. ⌜ r ≡ unknownEdition number ⌝ }

@@ -1,21 +1,25 @@
--- A call's answer, by whether the table is refused.
+-- A call's answer, by whether it is refused.
+--     answer-unknown, answer-wrong, answer-right, judge    by the tests of the edition and of the table
 --     run-refuses, run-finishes    what `run` answers and leaves is its outcome
 --     refuses, finishes            and the other way round: what its outcome says
 --     result-cells                 a result has as many numbers as its cells say
 --     forever-refuses, forever-is  the answer of `determine_runs_forever`
 -- Assumes nothing.
 use mathlib.Core.Path.{_≡_, refl, sym, ap, ap₂, _∙_}
-use mathlib.Core.Bool.{Bool, true, false, cond}
+use mathlib.Core.Bool.{Bool, true, false, not, cond}
 use mathlib.Core.List.{List, [], _∷_}
-use Prim.Native.Nat.{ℕ}
+use Prim.Native.Nat.{ℕ, suc}
 use lib.ListN.{length, getD}
 use native.Mathlib.Omega.{arith}
 use borrow.Author.Tests.{not-true, not-false}
+use Rattle.base.specs.declared.edition.Edition.{Edition}
+use Rattle.base.specs.declared.edition.Edition.the-variants.{Rust}
+use Rattle.base.specs.Edition.{unknownEdition, editionOf}
 use Rattle.base.specs.Numbers.{Numbers, numbers, row, first, unlessRefused, valuesOf, numberOf}
 use Rattle.base.proofs.Clash.{clash}
 use Rattle.machine.specs.declared.Stop.{Stop}
 use Rattle.machine.specs.declared.Stop.the-variants.{Completed, MaxSteps, NeedsInput, StackFull, OutputFull, BadInput}
-use Rattle.machine.specs.Machine.{Given, statusOf}
+use Rattle.machine.specs.Machine.{Asks, givenOf, statusOf}
 use Rattle.machine.specs.Held.{Slices}
 use Rattle.machine.specs.Place.{End}
 use Rattle.interpreter.specs.declared.Ended.{Ended}
@@ -25,7 +29,7 @@ use Rattle.interpreter.specs.declared.Forever.{Forever}
 use Rattle.interpreter.specs.declared.Forever.the-variants as Verdict
 use Rattle.interpreter.specs.Table.{wrongTable, validOf, every}
 use Rattle.interpreter.specs.Forever as Always
-use Rattle.interpreter.specs.Outcome.{slicesOf, endedOf, resultOf, resultCells, refused, numbered, endOf, Outcome}
+use Rattle.interpreter.specs.Outcome.{slicesOf, endedOf, resultOf, resultCells, refused, numbered, endOf, answer, Outcome}
 
 pub result-cells : (e : Ended) → length (resultOf e) ≡ resultCells
 result-cells e = refl
@@ -39,53 +43,79 @@ status-some StackFull e = omega arith
 status-some OutputFull e = omega arith
 status-some BadInput e = omega arith
 
-module _ (n : ℕ) (rows exits : List ℕ) (g : Given) (l : Slices) where
+module _ (n : ℕ) (rows exits : List ℕ) (a : Asks) (l : Slices) where
   abbrev end : End
-  end = endOf rows exits g l
+  end = endOf rows exits (givenOf a) l
 
-  -- the answer and the slices, by the test of the table
-  abbrev answered : Bool → Numbers
-  answered wrong = first (row wrong (refused 10) ∷ []) (numbers 0 (resultOf (endedOf end)))
+  -- the answer by the tests of the edition and of the table
+  abbrev answered : Bool → Bool → Numbers
+  answered unknown wrong = first (row unknown (refused 15) ∷ row wrong (refused 10) ∷ []) (numbers 0 (resultOf (endedOf end)))
 
-  abbrev left : Bool → Slices
-  left wrong = unlessRefused (answered wrong) (slicesOf l (end .at .store)) l
+  abbrev edition : Edition
+  edition = editionOf (a .edition)
 
-  pub run-refuses : validOf n rows exits ≡ false → Outcome n rows exits g l (Refused 10) l
-  unfolding first numbered
-  run-refuses v =
-      let e = not-false (wrongTable n rows exits) v in
-      record { answers = sym (ap answered e); ends = λ x h. clash cc; leaves = sym (ap left e) }
+  pub answer-unknown : unknownEdition (a .edition) ≡ true → answer n rows exits a l ≡ refused 15
+  unfolding first
+  answer-unknown u = ap (λ (t : Bool). answered t (wrongTable edition n rows exits)) u
 
-  pub run-finishes : {r : Ended} {l′ : Slices} → validOf n rows exits ≡ true → r ≡ endedOf end → l′ ≡ slicesOf l (end .at .store)
-      → Outcome n rows exits g l (Finished r) l′
-  unfolding first numbered
-  run-finishes {r} v p q =
-      let e = not-true (wrongTable n rows exits) v in
-      record {
-        answers = ap (λ (x : Ended). numbers 0 (resultOf x)) p ∙ sym (ap answered e);
-        ends = λ x h. same h ∙ p;
-        leaves = q ∙ sym (ap left e);
-      }
+  pub answer-wrong : unknownEdition (a .edition) ≡ false → validOf edition n rows exits ≡ false → answer n rows exits a l ≡ refused 10
+  unfolding first
+  answer-wrong u v = ap₂ answered u (not-false (wrongTable edition n rows exits) v)
+
+  pub answer-right : unknownEdition (a .edition) ≡ false → validOf edition n rows exits ≡ true
+      → answer n rows exits a l ≡ numbers 0 (resultOf (endedOf end))
+  unfolding first
+  answer-right u v = ap₂ answered u (not-true (wrongTable edition n rows exits) v)
+
+  -- what a call comes to: it is refused, or the edition is known and the table one of n regions
+  pub data Judged : Type 0 where
+    unknown : unknownEdition (a .edition) ≡ true → Judged
+    wrong : unknownEdition (a .edition) ≡ false → validOf edition n rows exits ≡ false → Judged
+    right : unknownEdition (a .edition) ≡ false → validOf edition n rows exits ≡ true → Judged
+
+  pub judge : Judged
+  judge = known (unknownEdition (a .edition)) refl
+    where
+      tested : unknownEdition (a .edition) ≡ false → (t : Bool) → validOf edition n rows exits ≡ t → Judged
+      tested u true v = right u v
+      tested u false v = wrong u v
+
+      known : (t : Bool) → unknownEdition (a .edition) ≡ t → Judged
+      known true u = unknown u
+      known false u = tested u (validOf edition n rows exits) refl
+
+  -- the slices by the answer
+  abbrev left : Numbers → Slices
+  left x = unlessRefused x (slicesOf l (end .at .store)) l
+
+  pub run-refuses : (k : ℕ) → answer n rows exits a l ≡ refused (suc k) → Outcome n rows exits a l (Refused (suc k)) l
+  unfolding numbered
+  run-refuses k e = record { answers = sym e; ends = λ x h. clash cc; leaves = sym (ap left e) }
+
+  pub run-finishes : {r : Ended} {l′ : Slices} → answer n rows exits a l ≡ numbers 0 (resultOf (endedOf end)) → r ≡ endedOf end
+      → l′ ≡ slicesOf l (end .at .store) → Outcome n rows exits a l (Finished r) l′
+  unfolding numbered
+  run-finishes {r} e p q = record {
+    answers = ap (λ (x : Ended). numbers 0 (resultOf x)) p ∙ sym e;
+    ends = λ x h. same h ∙ p;
+    leaves = q ∙ sym (ap left e);
+  }
     where
       same : {x : Ended} → Finished r ≡ Finished x → x ≡ r
       same h = cc
 
-  module _ {r : Ran} {l′ : Slices} (o : Outcome n rows exits g l r l′) where
-    pub refuses : validOf n rows exits ≡ false → (r ≡ Refused 10) × (l′ ≡ l)
-    unfolding first numbered
-    refuses v =
-        let e = not-false (wrongTable n rows exits) v in
-        (named r (o .answers ∙ ap answered e), o .leaves ∙ ap left e)
+  module _ {r : Ran} {l′ : Slices} (o : Outcome n rows exits a l r l′) where
+    pub refuses : (k : ℕ) → answer n rows exits a l ≡ refused (suc k) → (r ≡ Refused (suc k)) × (l′ ≡ l)
+    unfolding numbered
+    refuses k e = (named r (o .answers ∙ e), o .leaves ∙ ap left e)
       where
-        named : (r : Ran) → numbered r ≡ refused 10 → r ≡ Refused 10
-        named (Refused k) h = ap (λ (x : Numbers). Refused (numberOf x)) h
-        named (Finished x) h = let z : _≡_ {A = ℕ} 0 10 = ap numberOf h in absurd (omega arith)
+        named : (r : Ran) → numbered r ≡ refused (suc k) → r ≡ Refused (suc k)
+        named (Refused i) h = ap (λ (x : Numbers). Refused (numberOf x)) h
+        named (Finished x) h = let z : 0 ≡ suc k = ap numberOf h in absurd (omega arith)
 
-    pub finishes : validOf n rows exits ≡ true → (r ≡ Finished (endedOf end)) × (l′ ≡ slicesOf l (end .at .store))
-    unfolding first numbered
-    finishes v =
-        let e = not-true (wrongTable n rows exits) v in
-        (named r refl (o .answers ∙ ap answered e), o .leaves ∙ ap left e)
+    pub finishes : answer n rows exits a l ≡ numbers 0 (resultOf (endedOf end)) → (r ≡ Finished (endedOf end)) × (l′ ≡ slicesOf l (end .at .store))
+    unfolding numbered
+    finishes e = (named r refl (o .answers ∙ e), o .leaves ∙ ap left e)
       where
         status-of : Numbers → ℕ
         status-of x = getD (valuesOf x) 0 0
@@ -101,16 +131,16 @@ verdictOf false = Verdict.No
 
 module _ (n : ℕ) (rows exits : List ℕ) where
   abbrev judged : Bool → Bool → Numbers
-  judged wrong all = first (row wrong (numbers 10 (0 ∷ [])) ∷ []) (numbers 0 (cond all 1 0 ∷ []))
+  judged invalid all = first (row invalid (numbers 10 (0 ∷ [])) ∷ []) (numbers 0 (cond all 1 0 ∷ []))
 
-  pub forever-refuses : validOf n rows exits ≡ false → Always.numbered Verdict.Refused ≡ Always.answer n rows exits
+  pub forever-refuses : validOf Rust n rows exits ≡ false → Always.numbered Verdict.Refused ≡ Always.answer n rows exits
   unfolding first Always.numbered
-  forever-refuses v = sym (ap (λ (t : Bool). judged t (every (Always.onward rows exits) n)) (not-false (wrongTable n rows exits) v))
+  forever-refuses v = sym (ap (λ (t : Bool). judged t (every (Always.onward rows exits) n)) (not-false (wrongTable Rust n rows exits) v))
 
-  pub forever-is : (t : Bool) → validOf n rows exits ≡ true → every (Always.onward rows exits) n ≡ t
+  pub forever-is : (t : Bool) → validOf Rust n rows exits ≡ true → every (Always.onward rows exits) n ≡ t
       → Always.numbered (verdictOf t) ≡ Always.answer n rows exits
   unfolding first Always.numbered verdictOf
-  forever-is t v a = go t ∙ sym (ap₂ judged (not-true (wrongTable n rows exits) v) a)
+  forever-is t v a = go t ∙ sym (ap₂ judged (not-true (wrongTable Rust n rows exits) v) a)
     where
       go : (t : Bool) → Always.numbered (verdictOf t) ≡ judged false t
       go true = refl

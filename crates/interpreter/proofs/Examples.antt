@@ -12,7 +12,7 @@ use Rattle.text.specs.Input.{intOf, pushOrSkip}
 use Rattle.text.specs.Reading.{chars, same, valid, takeOf}
 use Rattle.stack.specs.Instr.{pop}
 use Rattle.machine.specs.Counts.{indexOf, one, oneMore, counted}
-use Rattle.machine.specs.Machine.{Given, given, statusOf, take, read, exec, fitting}
+use Rattle.machine.specs.Machine.{Asks, asks, statusOf, take, read, exec, fitting}
 use Rattle.machine.specs.Held.{Slices, slices}
 use Rattle.interpreter.specs.Table.{openFrom, any, every}
 use Rattle.interpreter.specs.Forever as Forever
@@ -30,9 +30,9 @@ exits = 524290 ∷ 589826 ∷ 0 ∷ 0 ∷ 0 ∷ 0 ∷ 0 ∷ 0 ∷ 0 ∷ 0 ∷ 0 
 abbrev told : List ℕ → Numbers
 told values = numbers 0 (values ++ (0 ∷ 0 ∷ 0 ∷ 0 ∷ []))
 
--- a limit and a mode, and no input
-abbrev with : ℕ → Bool → Given
-with limit mode = given (record { limit = limit; «abstract_mode» = mode }) []
+-- edition 1, a limit and a mode, and no input
+abbrev with : ℕ → Bool → Asks
+with limit mode = asks 1 limit mode []
 
 -- slices that hold something before the call
 abbrev used : Slices
@@ -58,10 +58,13 @@ pub forever : (Forever.answer 2 rows exits ≡ numbers 0 (1 ∷ []))
 unfolding any every first
 forever = (refl, refl, refl)
 
--- a run of one region with one exit, or none, and no room
+-- a run of one region with one exit, or none, and no room; in edition 1, and in that of a number
+abbrev aloneIn : ℕ → ℕ → ℕ → Bool → Numbers
+aloneIn edition exit limit mode =
+    answer 1 (6 ∷ 3 ∷ 0 ∷ 0 ∷ 1 ∷ []) (exit ∷ 0 ∷ 0 ∷ 0 ∷ 0 ∷ 0 ∷ 0 ∷ 0 ∷ []) (asks edition limit mode []) (slices [] [] [])
+
 abbrev alone : ℕ → ℕ → Bool → Numbers
-alone exit limit mode =
-    answer 1 (6 ∷ 3 ∷ 0 ∷ 0 ∷ 1 ∷ []) (exit ∷ 0 ∷ 0 ∷ 0 ∷ 0 ∷ 0 ∷ 0 ∷ 0 ∷ []) (with limit mode) (slices [] [] [])
+alone = aloneIn 1
 
 -- no exit: Completed after 0 steps; with the limit 0, MaxSteps (rule 8.2)
 pub stops-at-once : (alone 0 5 false ≡ told (1 ∷ 0 ∷ 0 ∷ 0 ∷ 0 ∷ 0 ∷ 0 ∷ 0 ∷ []))
@@ -103,3 +106,18 @@ block-left = (refl, refl)
 pub stack-full : alone 524289 5 false ≡ told (4 ∷ 0 ∷ 0 ∷ 0 ∷ 0 ∷ 0 ∷ 0 ∷ 0 ∷ [])
 unfolding attemptOf statusOf exec fitting openFrom any arrive after runOf first
 stack-full = refl
+
+-- a lost slide: in edition 2 Completed after 0 steps, and with the limit 0 MaxSteps (rule 16.6); in edition 1 it is refused, as is
+-- the number above it in both (rule 12.2)
+pub lost-slide : (aloneIn 2 9437185 5 false ≡ told (1 ∷ 0 ∷ 0 ∷ 0 ∷ 0 ∷ 0 ∷ 0 ∷ 0 ∷ []))
+    × (aloneIn 2 9437185 0 false ≡ told (2 ∷ 0 ∷ 0 ∷ 0 ∷ 0 ∷ 0 ∷ 0 ∷ 0 ∷ []))
+    × (aloneIn 1 9437185 5 false ≡ refused 10)
+    × (aloneIn 1 9437186 5 false ≡ refused 10)
+    × (aloneIn 2 9437186 5 false ≡ refused 10)
+unfolding attemptOf statusOf openFrom any after runOf first
+lost-slide = (refl, refl, refl, refl, refl)
+
+-- a number that names no edition: 15, also where the table is wrong (rule 12.6)
+pub no-edition : (aloneIn 0 0 5 false ≡ refused 15) × (aloneIn 3 9437186 5 false ≡ refused 15) × (aloneIn 257 9437185 5 false ≡ refused 15)
+unfolding first
+no-edition = (refl, refl, refl)

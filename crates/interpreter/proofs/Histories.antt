@@ -14,7 +14,6 @@ use mathlib.Core.Logic.{_⊎_, inl, inr}
 use mathlib.Core.List.{List, [], _∷_, map}
 use Prim.Native.Nat.{ℕ, zero, suc, _+_, _<_, _≤_}
 use native.Mathlib.Omega.{arith}
-use lib.Dec.{eqb}
 use lib.ListN.{length, getD}
 use Rattle.base.proofs.Clash.{clash}
 use Rattle.machine.specs.declared.Stop.{Stop}
@@ -28,23 +27,23 @@ use Rattle.machine.proofs.Fitting.{fit-kept, fit-stops, not-limit, exec-limit}
 use Rattle.machine.proofs.Skipping.{exec-counts, exec-total, skipped-same, times-append}
 use Rattle.table.specs.ExitNumber.{targetOf}
 use Rattle.table.specs.Layout.{sizeOf}
-use Rattle.interpreter.specs.Table.{pointersOf, opOf}
+use Rattle.interpreter.specs.Table.{pointersOf, opOf, ends}
 use Rattle.interpreter.specs.Run.{Job, Went, goes, halts, arrive, exitFrom, effectOf, through, leave, stepOf, after, runOf, ran}
 use Rattle.interpreter.specs.History.{Passes, stays, passes, reasonsOf, History, regionsOf}
 
 -- what a step that is taken came to
 pub record Kept (j : Job) (m m′ : Machine) : Type 0 where
   pub unawaited : m .store .reading .awaiting ≡ false
-  pub some : eqb (exitFrom j m) 0 ≡ false
+  pub some : ends (exitFrom j m) ≡ false
   pub store : fitting (j .room) (effectOf j (exitFrom j m) m) ≡ keeps (m′ .store)
   pub region : m′ .region ≡ targetOf (exitFrom j m)
   pub counted : m′ .steps ≡ m .steps + 1
 
--- and one that is not: input is awaited, no attempt is open, or the instruction is not kept
+-- and one that is not: input is awaited, there is no exit to go through, or the instruction is not kept
 pub data Halts (j : Job) (m : Machine) : Stop → Type 0 where
   awaits : m .store .reading .awaiting ≡ true → Halts j m NeedsInput
-  ends : m .store .reading .awaiting ≡ false → eqb (exitFrom j m) 0 ≡ true → Halts j m Completed
-  barred : {s : Stop} → m .store .reading .awaiting ≡ false → eqb (exitFrom j m) 0 ≡ false
+  over : m .store .reading .awaiting ≡ false → ends (exitFrom j m) ≡ true → Halts j m Completed
+  barred : {s : Stop} → m .store .reading .awaiting ≡ false → ends (exitFrom j m) ≡ false
       → fitting (j .room) (effectOf j (exitFrom j m) m) ≡ stops s → Halts j m s
 
 pub data Stepped (j : Job) (m : Machine) : Went → Type 0 where
@@ -52,7 +51,7 @@ pub data Stepped (j : Job) (m : Machine) : Went → Type 0 where
   halted : {s : Stop} → Halts j m s → Stepped j m (halts s)
 
 module _ (j : Job) where
-  arrived : (m : Machine) → m .store .reading .awaiting ≡ false → eqb (exitFrom j m) 0 ≡ false
+  arrived : (m : Machine) → m .store .reading .awaiting ≡ false → ends (exitFrom j m) ≡ false
       → (o : Out) → fitting (j .room) (effectOf j (exitFrom j m) m) ≡ o → Stepped j m (arrive (exitFrom j m) m o)
   unfolding arrive
   arrived m a q (keeps s) e = kept (record { unawaited = a; some = q; store = e; region = refl; counted = refl })
@@ -62,14 +61,14 @@ module _ (j : Job) where
   pub step-cases : (m : Machine) → Stepped j m (stepOf j m)
   step-cases m = waits (m .store .reading .awaiting) refl
     where
-      opens : m .store .reading .awaiting ≡ false → (t : Bool) → eqb (exitFrom j m) 0 ≡ t
+      opens : m .store .reading .awaiting ≡ false → (t : Bool) → ends (exitFrom j m) ≡ t
           → Stepped j m (cond t (halts Completed) (through j (exitFrom j m) m))
-      opens a true q = halted (ends a q)
+      opens a true q = halted (over a q)
       opens a false q = arrived m a q (fitting (j .room) (effectOf j (exitFrom j m) m)) refl
 
       waits : (t : Bool) → m .store .reading .awaiting ≡ t → Stepped j m (cond t (halts NeedsInput) (leave j (exitFrom j m) m))
       waits true a = halted (awaits a)
-      waits false a = opens a (eqb (exitFrom j m) 0) refl
+      waits false a = opens a (ends (exitFrom j m)) refl
 
   pub step-kept : (m m′ : Machine) → stepOf j m ≡ goes m′ → Kept j m m′
   step-kept m m′ e = go (stepOf j m) (step-cases m) e
@@ -90,7 +89,7 @@ module _ (j : Job) where
     where
       go : {s : Stop} → Halts j m s → s ≡ MaxSteps → ⊥
       go (awaits a) q = clash cc
-      go (ends a b) q = clash cc
+      go (over a b) q = clash cc
       go (barred a b k) q = not-limit (fit-stops (j .room) (effectOf j (exitFrom j m) m) k) q
 
   -- the counts after a step that is kept, and after all of a history

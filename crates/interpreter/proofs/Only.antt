@@ -4,18 +4,20 @@
 --     determine_runs_forever    forever-only
 --     valid                     `equation-only` of base's proofs/Only.antt
 -- and what the answers say:
---     run-refusal               10 exactly where the table is not valid, and then nothing changes
+--     run-refusal               15 exactly where the edition is unknown, else 10 exactly where the table is not valid, and then
+--                               nothing changes
 --     forever-answer            which of its three answers `determine_runs_forever` gives
 -- Assumes nothing.
 use mathlib.Core.Path.{_≡_, refl, sym, ap, _∙_}
 use mathlib.Core.Bool.{Bool, true, false, not, cond}
 use mathlib.Core.List.{List, [], _∷_}
 use Prim.Native.Nat.{ℕ}
-use native.Mathlib.Omega.{arith}
 use lib.Dec.{eqb}
 use lib.ListN.{getD}
+use Rattle.base.specs.declared.edition.Edition.the-variants.{Rust}
+use Rattle.base.specs.Edition.{unknownEdition, editionOf}
 use Rattle.base.specs.Numbers.{Numbers, numbers, numberOf, valuesOf, row, first}
-use Rattle.machine.specs.Machine.{Given}
+use Rattle.machine.specs.Machine.{Given, Asks}
 use Rattle.machine.specs.Held.{Slices}
 use Rattle.machine.proofs.Only.{AsLong}
 use Rattle.interpreter.specs.declared.State.{State}
@@ -28,41 +30,46 @@ use Rattle.interpreter.specs.Forever as Always
 use Rattle.interpreter.specs.Outcome.{refused, numbered, Outcome}
 use Rattle.interpreter.specs.Resume.{Resumed}
 use Rattle.interpreter.proofs.Settled.{settled}
-use Rattle.interpreter.proofs.Answering.{refuses, finishes}
+use Rattle.interpreter.proofs.Answering.{Judged, unknown, wrong, right, judge, answer-unknown, answer-wrong, answer-right, refuses, finishes}
 
-module _ (n : ℕ) (rows exits : List ℕ) (g : Given) (l : Slices) where
-  pub run-only : {r r′ : Ran} {l′ l″ : Slices} → Outcome n rows exits g l r l′ → Outcome n rows exits g l r′ l″ → (r ≡ r′) × (l′ ≡ l″)
-  run-only {r} {r′} {l′} {l″} p q = go (validOf n rows exits) refl
+module _ (n : ℕ) (rows exits : List ℕ) (a : Asks) (l : Slices) where
+  pub run-only : {r r′ : Ran} {l′ l″ : Slices} → Outcome n rows exits a l r l′ → Outcome n rows exits a l r′ l″ → (r ≡ r′) × (l′ ≡ l″)
+  run-only {r} {r′} {l′} {l″} p q = go (judge n rows exits a l)
     where
-      go : (t : Bool) → validOf n rows exits ≡ t → (r ≡ r′) × (l′ ≡ l″)
-      go true v =
-          let a = finishes n rows exits g l p v in
-          let b = finishes n rows exits g l q v in
-          (a .0 ∙ sym (b .0), a .1 ∙ sym (b .1))
-      go false v =
-          let a = refuses n rows exits g l p v in
-          let b = refuses n rows exits g l q v in
-          (a .0 ∙ sym (b .0), a .1 ∙ sym (b .1))
+      same : {x : Ran} {y : Slices} → (r ≡ x) × (l′ ≡ y) → (r′ ≡ x) × (l″ ≡ y) → (r ≡ r′) × (l′ ≡ l″)
+      same u v = (u .0 ∙ sym (v .0), u .1 ∙ sym (v .1))
 
-  -- 10 exactly where the table is not valid (rule 12.6), and then what is lent is as it was (rule 12.1)
+      go : Judged n rows exits a l → (r ≡ r′) × (l′ ≡ l″)
+      go (unknown u) =
+          let h = answer-unknown n rows exits a l u in
+          same (refuses n rows exits a l p 14 h) (refuses n rows exits a l q 14 h)
+      go (wrong u v) =
+          let h = answer-wrong n rows exits a l u v in
+          same (refuses n rows exits a l p 9 h) (refuses n rows exits a l q 9 h)
+      go (right u v) =
+          let h = answer-right n rows exits a l u v in
+          same (finishes n rows exits a l p h) (finishes n rows exits a l q h)
+
+  -- 15 exactly where the edition is unknown, else 10 exactly where the table is not valid in it (rule 12.6), and then what is
+  -- lent is as it was (rule 12.1)
   pub record Refusal (r : Ran) (l′ : Slices) : Type 0 where
-    pub given : validOf n rows exits ≡ false → numbered r ≡ refused 10
-    pub only-then : (values : List ℕ) → numbered r ≡ numbers 10 values → validOf n rows exits ≡ false
-    pub unchanged : validOf n rows exits ≡ false → l′ ≡ l
+    pub edition : unknownEdition (a .edition) ≡ true → (numbered r ≡ refused 15) × (l′ ≡ l)
+    pub table : unknownEdition (a .edition) ≡ false → validOf (editionOf (a .edition)) n rows exits ≡ false → (numbered r ≡ refused 10) × (l′ ≡ l)
+    pub none : unknownEdition (a .edition) ≡ false → validOf (editionOf (a .edition)) n rows exits ≡ true → numberOf (numbered r) ≡ 0
 
-  pub run-refusal : {r : Ran} {l′ : Slices} → Outcome n rows exits g l r l′ → Refusal r l′
+  pub run-refusal : {r : Ran} {l′ : Slices} → Outcome n rows exits a l r l′ → Refusal r l′
   unfolding numbered
   run-refusal {r} {l′} o = record {
-    given = λ v. ap numbered (refuses n rows exits g l o v .0);
-    only-then = λ u h. go u h (validOf n rows exits) refl;
-    unchanged = λ v. refuses n rows exits g l o v .1;
+    edition =
+        λ u.
+        let x = refuses n rows exits a l o 14 (answer-unknown n rows exits a l u) in
+        (ap numbered (x .0), x .1);
+    table =
+        λ u v.
+        let x = refuses n rows exits a l o 9 (answer-wrong n rows exits a l u v) in
+        (ap numbered (x .0), x .1);
+    none = λ u v. ap (λ (y : Ran). numberOf (numbered y)) (finishes n rows exits a l o (answer-right n rows exits a l u v) .0);
   }
-    where
-      go : (u : List ℕ) → numbered r ≡ numbers 10 u → (t : Bool) → validOf n rows exits ≡ t → validOf n rows exits ≡ false
-      go u h true v =
-          let z : _≡_ {A = ℕ} 10 0 = sym (ap numberOf h) ∙ ap (λ (x : Ran). numberOf (numbered x)) (finishes n rows exits g l o v .0) in
-          absurd (omega arith)
-      go u h false v = v
 
 -- a call leaves the length of a lent slice as it is
 module _ (n : ℕ) (rows exits : List ℕ) (g : Given) (l : Slices) (from : State) where
@@ -89,9 +96,9 @@ module _ (n : ℕ) (rows exits : List ℕ) where
   forever-only {r} {r′} p q = told r ∙ ap toldBy (p ∙ sym q) ∙ sym (told r′)
 
   pub forever-answer : {r : Forever} → Always.numbered r ≡ Always.answer n rows exits
-      → r ≡ cond (validOf n rows exits) (cond (every (Always.onward rows exits) n) Yes No) Refused
+      → r ≡ cond (validOf Rust n rows exits) (cond (every (Always.onward rows exits) n) Yes No) Refused
   unfolding first
-  forever-answer {r} p = told r ∙ ap toldBy p ∙ go (wrongTable n rows exits) (every (Always.onward rows exits) n)
+  forever-answer {r} p = told r ∙ ap toldBy p ∙ go (wrongTable Rust n rows exits) (every (Always.onward rows exits) n)
     where
       go : (t u : Bool) → toldBy (first (row t (numbers 10 (0 ∷ [])) ∷ []) (numbers 0 (cond u 1 0 ∷ []))) ≡ cond (not t) (cond u Yes No) Refused
       go true u = refl

@@ -13,7 +13,7 @@ use Rattle.base.specs.Numbers.{numbers, first, unlessRefused}
 use Rattle.machine.proofs.Only.{AsLong}
 use Rattle.machine.specs.declared.Stop.{Stop}
 use Rattle.machine.specs.declared.Stop.the-variants.{Completed, MaxSteps, NeedsInput, StackFull, OutputFull, BadInput}
-use Rattle.machine.specs.Machine.{Given, underLimit}
+use Rattle.machine.specs.Machine.{Given, underLimit, Asks, asks, givenOf}
 use Rattle.machine.specs.Place.{Machine, End, start}
 use Rattle.machine.specs.Held.{Slices}
 use Rattle.interpreter.specs.declared.State.{State}
@@ -41,19 +41,22 @@ module _ (j : Job) where
       go (halts s) h f = refl
 
 -- the same of a call: answer and every lent cell
-pub larger-limit-outcome : (n : ℕ) (rows exits : List ℕ) (g : Given) (d : ℕ) (l : Slices) {r : Ran} {l′ : Slices}
-    → (endOf rows exits g l .stop ≡ MaxSteps → ⊥) → Outcome n rows exits g l r l′
-    → Outcome n rows exits (underLimit (g .terms .limit + d) g) l r l′
-larger-limit-outcome n rows exits g d l h o = record {
-  answers = o .answers ∙ ap (λ (e : End). first (refusals n rows exits) (numbers 0 (resultOf (endedOf e)))) same;
+pub larger-limit-outcome : (n : ℕ) (rows exits : List ℕ) (a : Asks) (d : ℕ) (l : Slices) {r : Ran} {l′ : Slices}
+    → (endOf rows exits (givenOf a) l .stop ≡ MaxSteps → ⊥) → Outcome n rows exits a l r l′
+    → Outcome n rows exits (asks (a .edition) (a .limit + d) (a .mode) (a .input)) l r l′
+larger-limit-outcome n rows exits a d l h o = record {
+  answers = o .answers ∙ ap (λ (e : End). first (refusals (a .edition) n rows exits) (numbers 0 (resultOf (endedOf e)))) same;
   ends = λ e q. o .ends e q ∙ ap endedOf same;
   leaves =
       o .leaves
-      ∙ ap (λ (e : End). unlessRefused (first (refusals n rows exits) (numbers 0 (resultOf (endedOf e)))) (slicesOf l (e .at .store)) l) same;
+      ∙ ap (λ (e : End). unlessRefused (first (refusals (a .edition) n rows exits) (numbers 0 (resultOf (endedOf e)))) (slicesOf l (e .at .store)) l) same;
 }
   where
+    g : Given
+    g = givenOf a
+
     limit : ℕ
-    limit = g .terms .limit
+    limit = a .limit
 
     j : Job
     j = jobOf rows exits g l

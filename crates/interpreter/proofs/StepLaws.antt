@@ -4,8 +4,9 @@ use mathlib.Core.Bool.{Bool, true, false, cond}
 use mathlib.Core.List.{List}
 use Prim.Native.Nat.{ℕ, zero, suc, _+_, _<_, _≤_}
 use native.Mathlib.Omega.{arith}
-use borrow.Author.Tests.{ne-eqb, eq-eqb}
+use borrow.Author.Tests.{eqb-false}
 use lib.Dec.{eqb}
+use Rattle.base.proofs.Tests.{neither}
 use Rattle.flow.specs.declared.PointerState.{PointerState}
 use Rattle.flow.specs.Pointer.{Valid, ofNumber, stateNumber, attemptOf}
 use Rattle.flow.proofs.Order.{valid-number, valid-attempt}
@@ -18,7 +19,7 @@ use Rattle.machine.specs.Counts.{total}
 use Rattle.machine.specs.Held.{Slices, roomOf, storeOf, Stands, outOf, After as Left, Execs, atPointers}
 use Rattle.machine.proofs.Fitting.{fit-kept}
 use Rattle.machine.proofs.Skipping.{exec-total}
-use Rattle.interpreter.specs.Table.{pointersOf, opOf, tried, openFrom, exitOf, Good}
+use Rattle.interpreter.specs.Table.{pointersOf, opOf, tried, openFrom, exitOf, ends, Good}
 use Rattle.table.specs.Layout.{sizeOf}
 use Rattle.interpreter.specs.Run.{arrive, through, stepOf}
 use Rattle.interpreter.specs.Outcome.{jobOf}
@@ -27,7 +28,7 @@ use Rattle.interpreter.specs.Moving.{nextOf, After, Steps}
 use Rattle.interpreter.specs.declared.State.{State}
 use Rattle.interpreter.specs.declared.stepping.Moved.{Moved}
 use Rattle.interpreter.specs.declared.stepping.Moved.the-variants.{To, Halted}
-use Rattle.table.specs.ExitNumber.{targetOf}
+use Rattle.table.specs.ExitNumber.{targetOf, lostSlide}
 
 -- the pointers of an exit are a state
 pub stands-in : (l : Slices) (at : Core) (s : ℕ) → Stands l at → s < 8 → Stands l (atPointers (ofNumber s) at)
@@ -59,14 +60,20 @@ module _ (rows exits : List ℕ) (g : Given) (n : ℕ) (l : Slices) (at : State)
   needs-input e = record { is = rw e refl; leaves = refl }
 
   module _ (e : at .core .reading .awaiting ≡ false) (w : ℕ) (hw : w ≡ exitOf exits (at .region) (at .core .pointers)) where
-    pub completed : w ≡ 0 → Steps (stepOf (jobOf rows exits g l) (machineOf l at)) n l at l (Halted Completed)
+    pub completed : ends w ≡ true → Steps (stepOf (jobOf rows exits g l) (machineOf l at)) n l at l (Halted Completed)
     unfolding nextOf After
-    completed z = record { is = rw (e, ← hw, eq-eqb w 0 z) refl; leaves = refl }
+    completed z = record { is = rw (e, ← hw, z) refl; leaves = refl }
 
-    pub taken : (l′ : Slices) (r : Moved) → (w ≡ 0 → ⊥)
+    pub taken : (l′ : Slices) (r : Moved) → ends w ≡ false
         → Steps (through (jobOf rows exits g l) w (machineOf l at)) n l at l′ r
         → Steps (stepOf (jobOf rows exits g l) (machineOf l at)) n l at l′ r
-    taken l′ r z x = record { is = x .is ∙ sym (rw (e, ← hw, ne-eqb w 0 z) refl); leaves = x .leaves }
+    taken l′ r z x = record { is = x .is ∙ sym (rw (e, ← hw, z) refl); leaves = x .leaves }
+
+-- an exit to go through is not 0
+pub some-exit : (w : ℕ) → ends w ≡ false → 0 < w
+some-exit w h =
+    let z : w ≡ 0 → ⊥ = eqb-false w 0 (neither (eqb w 0) (eqb w lostSlide) h .0) in
+    omega (arith, z)
 
 -- the exit taken leads to a region of the table
 either : (P : ℕ → Type 0) (t : Bool) (x y : ℕ) → P x → P y → P (cond t x y)

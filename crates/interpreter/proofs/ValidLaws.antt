@@ -8,11 +8,12 @@ use native.Mathlib.Omega.{arith}
 use borrow.Author.Tests.{eqb-false, ltb-false, leb-false, not-true, ne-eqb, le-ltb}
 use lib.Dec.{eqb, ltb, leb}
 use lib.ListN.{length, getD}
+use Rattle.base.specs.declared.edition.Edition.{Edition}
 use Rattle.base.proofs.Tests.{neither, and-both, by-size}
-use Rattle.interpreter.specs.Table.{any, every, wrongCount, tooShort, wrongMark, wrongExit, wrongExits, wrongTable, validOf, Good}
+use Rattle.interpreter.specs.Table.{any, every, wrongCount, tooShort, wrongMark, largestIn, wrongExit, wrongExits, wrongTable, validOf, Good}
 use Rattle.table.specs.Layout.{exitCell, exitAt, rowsRoom, exitsRoom}
 use Rattle.table.proofs.Cells.{exit-in, exit-below, each-exit-cell}
-use Rattle.table.specs.ExitNumber.{targetOf, largestExit}
+use Rattle.table.specs.ExitNumber.{targetOf}
 
 both-true : (a b : Bool) → a ≡ true → b ≡ true → (a && b) ≡ true
 both-true a b p q = rw (p, q) refl
@@ -102,33 +103,34 @@ same-test false true p q = sym (p refl)
 same-test false false p q = refl
 
 -- the exits of n regions, cell by cell, and state by state of each region
-pub wrong-by-cell : (n : ℕ) (exits : List ℕ) → any (λ i. wrongExit n (getD exits i 0)) (exitsRoom n) ≡ any (wrongExits n exits) n
-wrong-by-cell n exits = same-test (any cell (exitsRoom n)) (any (wrongExits n exits) n) by-region by-cell
+pub wrong-by-cell : (largest n : ℕ) (exits : List ℕ)
+    → any (λ i. wrongExit largest n (getD exits i 0)) (exitsRoom n) ≡ any (wrongExits largest n exits) n
+wrong-by-cell largest n exits = same-test (any cell (exitsRoom n)) (any (wrongExits largest n exits) n) by-region by-cell
   where
     cell : ℕ → Bool
-    cell i = wrongExit n (getD exits i 0)
+    cell i = wrongExit largest n (getD exits i 0)
 
-    by-region : any cell (exitsRoom n) ≡ false → any (wrongExits n exits) n ≡ false
+    by-region : any cell (exitsRoom n) ≡ false → any (wrongExits largest n exits) n ≡ false
     by-region h =
-        any-nowhere (wrongExits n exits) n
+        any-nowhere (wrongExits largest n exits) n
         (λ r l. any-nowhere (λ s. cell (exitCell r s)) 8 (λ s k. any-not cell (exitsRoom n) h (exitCell r s) (exit-in n r s k l)))
 
-    by-cell : any (wrongExits n exits) n ≡ false → any cell (exitsRoom n) ≡ false
+    by-cell : any (wrongExits largest n exits) n ≡ false → any cell (exitsRoom n) ≡ false
     by-cell h =
         any-nowhere cell (exitsRoom n)
         (each-exit-cell (λ i. i < exitsRoom n → cell i ≡ false)
-        (λ r s k l. any-not (λ s. cell (exitCell r s)) 8 (any-not (wrongExits n exits) n h r (exit-below n r s k l)) s k))
+        (λ r s k l. any-not (λ s. cell (exitCell r s)) 8 (any-not (wrongExits largest n exits) n h r (exit-below n r s k l)) s k))
 
-pub good-of : (n : ℕ) (rows exits : List ℕ) → validOf n rows exits ≡ true → Good n rows exits
-good-of n rows exits v =
+pub good-of : (e : Edition) (n : ℕ) (rows exits : List ℕ) → validOf e n rows exits ≡ true → Good n rows exits
+good-of e n rows exits v =
     let marks : Bool = any (wrongMark rows) n in
-    let leaves : Bool = any (wrongExits n exits) n in
-    let a = neither (wrongCount n) (tooShort n rows exits || (marks || leaves)) (not-true (wrongTable n rows exits) v) in
+    let leaves : Bool = any (wrongExits (largestIn e) n exits) n in
+    let a = neither (wrongCount n) (tooShort n rows exits || (marks || leaves)) (not-true (wrongTable e n rows exits) v) in
     let b = neither (eqb n 0) (ltb 65536 n) (a .0) in
     let z : n ≡ 0 → ⊥ = eqb-false n 0 (b .0) in
     let c = neither (tooShort n rows exits) (marks || leaves) (a .1) in
     let d = neither (ltb (length rows) (rowsRoom n)) (ltb (length exits) (exitsRoom n)) (c .0) in
-    let e = neither marks leaves (c .1) in
+    let f = neither marks leaves (c .1) in
     record {
       some = omega (arith, z);
       few = omega (arith, ltb-false 65536 n (b .1));
@@ -137,8 +139,8 @@ good-of n rows exits v =
       leads =
           λ r s h k.
           let w : ℕ = exitAt exits r s in
-          let q = any-not (λ s. wrongExit n (exitAt exits r s)) 8 (any-not (wrongExits n exits) n (e .1) r h) s k in
-          leb-false n (targetOf w) (neither (ltb largestExit w) (leb n (targetOf w)) q .1);
+          let q = any-not (λ s. wrongExit (largestIn e) n (exitAt exits r s)) 8 (any-not (wrongExits (largestIn e) n exits) n (f .1) r h) s k in
+          leb-false n (targetOf w) (neither (ltb (largestIn e) w) (leb n (targetOf w)) q .1);
     }
 
 -- the first two sentences of refusal 10 do not hold

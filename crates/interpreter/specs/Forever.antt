@@ -3,6 +3,7 @@ use mathlib.Core.Bool.{Bool, not, cond, _||_}
 use mathlib.Core.List.{List, [], _∷_}
 use Prim.Native.Nat.{ℕ}
 use lib.Dec.{eqb}
+use Rattle.base.specs.declared.edition.Edition.the-variants.{Rust}
 use Rattle.base.specs.Numbers.{Numbers, numbers, Row, row, first}
 use Rattle.interpreter.specs.declared.Forever.{Forever}
 use Rattle.interpreter.specs.declared.Forever.the-variants.{Refused, Yes, No}
@@ -23,9 +24,9 @@ numbered Refused = numbers 10 (0 ∷ [])
 numbered Yes = numbers 0 (1 ∷ [])
 numbered No = numbers 0 (0 ∷ [])
 
--- the refusals of the call, its answer where none is given, and what is answered
+-- the refusals of the call, which is of edition 1 (rule 16.7), its answer where none is given, and what is answered
 abbrev pub refusals : ℕ → List ℕ → List ℕ → List Row
-refusals n rows exits = row (wrongTable n rows exits) (numbers 10 (0 ∷ [])) ∷ []
+refusals n rows exits = row (wrongTable Rust n rows exits) (numbers 10 (0 ∷ [])) ∷ []
 
 abbrev pub verdict : List ℕ → List ℕ → ℕ → Numbers
 verdict rows exits n = numbers 0 (cond (every (onward rows exits) n) 1 0 ∷ [])

@@ -4,11 +4,12 @@ use mathlib.Core.List.{List, [], _∷_, _++_, map, reverse}
 use Prim.Native.Nat.{ℕ, _-_}
 use lib.ListN.{length, replicate}
 use lib.IntN.{ℤ, pos}
+use Rattle.base.specs.Edition.{unknownEdition, editionOf}
 use Rattle.base.specs.Numbers.{Numbers, numbers, Row, row, first, unlessRefused}
 use Rattle.machine.specs.declared.Core.{Core}
 use Rattle.machine.specs.Output.{Emit}
 use Rattle.machine.specs.Counts.{countsOf}
-use Rattle.machine.specs.Machine.{Given, Store, statusOf}
+use Rattle.machine.specs.Machine.{Given, Asks, givenOf, Store, statusOf}
 use Rattle.machine.specs.Place.{Machine, End}
 use Rattle.machine.specs.Held.{Slices, slices, roomOf}
 use Rattle.interpreter.specs.declared.State.{State}
@@ -61,27 +62,27 @@ unfoldable pub numbered : Ran → Numbers
 numbered (Refused number) = refused number
 numbered (Finished e) = numbers 0 (resultOf e)
 
--- the refusals of the call: 10 alone (rule 12.6)
-abbrev pub refusals : ℕ → List ℕ → List ℕ → List Row
-refusals n rows exits = row (wrongTable n rows exits) (refused 10) ∷ []
+-- the refusals of the call, whose edition has the number e: 15, then 10 (rule 12.6)
+abbrev pub refusals : ℕ → ℕ → List ℕ → List ℕ → List Row
+refusals e n rows exits = row (unknownEdition e) (refused 15) ∷ row (wrongTable (editionOf e) n rows exits) (refused 10) ∷ []
 
 abbrev pub jobOf : List ℕ → List ℕ → Given → Slices → Job
 jobOf rows exits g l = record { rows = rows; exits = exits; given = g; room = roomOf l }
 
--- where the run ends that is called with these
+-- where the run ends that is given these
 abbrev pub endOf : List ℕ → List ℕ → Given → Slices → End
 endOf rows exits g l = ran (jobOf rows exits g l)
 
 -- what is answered; and what the lent slices hold then: what they held, where the call is refused (rule 12.1)
-abbrev pub answer : ℕ → List ℕ → List ℕ → Given → Slices → Numbers
-answer n rows exits g l = first (refusals n rows exits) (numbers 0 (resultOf (endedOf (endOf rows exits g l))))
+abbrev pub answer : ℕ → List ℕ → List ℕ → Asks → Slices → Numbers
+answer n rows exits a l = first (refusals (a .edition) n rows exits) (numbers 0 (resultOf (endedOf (endOf rows exits (givenOf a) l))))
 
-abbrev pub leftOf : ℕ → List ℕ → List ℕ → Given → Slices → Slices
-leftOf n rows exits g l = unlessRefused (answer n rows exits g l) (slicesOf l (endOf rows exits g l .at .store)) l
+abbrev pub leftOf : ℕ → List ℕ → List ℕ → Asks → Slices → Slices
+leftOf n rows exits a l = unlessRefused (answer n rows exits a l) (slicesOf l (endOf rows exits (givenOf a) l .at .store)) l
 
 -- what a call answers and leaves. The numbers do not tell whether input is awaited, so the place where a finished
 -- run ended is settled besides.
-pub record Outcome (n : ℕ) (rows exits : List ℕ) (g : Given) (l : Slices) (r : Ran) (l′ : Slices) : Type 0 where
-  pub answers : numbered r ≡ answer n rows exits g l
-  pub ends : (e : Ended) → r ≡ Finished e → e ≡ endedOf (endOf rows exits g l)
-  pub leaves : l′ ≡ leftOf n rows exits g l
+pub record Outcome (n : ℕ) (rows exits : List ℕ) (a : Asks) (l : Slices) (r : Ran) (l′ : Slices) : Type 0 where
+  pub answers : numbered r ≡ answer n rows exits a l
+  pub ends : (e : Ended) → r ≡ Finished e → e ≡ endedOf (endOf rows exits (givenOf a) l)
+  pub leaves : l′ ≡ leftOf n rows exits a l

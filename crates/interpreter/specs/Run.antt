@@ -2,12 +2,11 @@
 use mathlib.Core.Bool.{cond}
 use mathlib.Core.List.{List}
 use Prim.Native.Nat.{ℕ, zero, suc, _+_}
-use lib.Dec.{eqb}
 use Rattle.machine.specs.declared.Stop.{Stop}
 use Rattle.machine.specs.declared.Stop.the-variants.{Completed, MaxSteps, NeedsInput}
 use Rattle.machine.specs.Machine.{Given, RunRoom, Effect, Out, keeps, stops, exec, fitting, withPointers}
 use Rattle.machine.specs.Place.{Machine, start, End}
-use Rattle.interpreter.specs.Table.{pointersOf, opOf, exitOf}
+use Rattle.interpreter.specs.Table.{pointersOf, opOf, exitOf, ends}
 use Rattle.table.specs.Layout.{sizeOf}
 use Rattle.table.specs.ExitNumber.{targetOf}
 
@@ -29,7 +28,7 @@ arrive w m (keeps s) = goes (record { region = targetOf w; steps = m .steps + 1;
 arrive w m (stops s) = halts s
 
 module _ (j : Job) where
-  -- the exit taken from where a run stands; 0 where there is none
+  -- the exit that a run comes to from where it stands; 0 where there is none
   abbrev pub exitFrom : Machine → ℕ
   exitFrom m = exitOf (j .exits) (m .region) (m .store .pointers)
 
@@ -40,9 +39,9 @@ module _ (j : Job) where
   abbrev pub through : ℕ → Machine → Went
   through w m = arrive w m (fitting (j .room) (effectOf w m))
 
-  -- the last test before a step: Completed, where no attempt is open (rules 8.2, 11.1)
+  -- the last test before a step: Completed, where no attempt is open (rules 8.2, 11.1) or a lost slide comes first (rule 16.6)
   abbrev pub leave : ℕ → Machine → Went
-  leave w m = cond (eqb w 0) (halts Completed) (through w m)
+  leave w m = cond (ends w) (halts Completed) (through w m)
 
   -- the test before that: NeedsInput, where input is awaited (rules 8.2, 11.3)
   abbrev pub stepOf : Machine → Went

@@ -5,12 +5,14 @@ use mathlib.Core.List.{List}
 use Prim.Native.Nat.{ℕ, zero, suc, _<_, _≤_}
 use lib.Dec.{eqb, leb, ltb}
 use lib.ListN.{length}
+use Rattle.base.specs.declared.edition.Edition.{Edition}
+use Rattle.base.specs.Edition.{byEdition}
 use Rattle.flow.specs.declared.PointerState.{PointerState}
 use Rattle.flow.specs.Pointer.{stateNumber, ofNumber, attemptOf}
 use Rattle.machine.specs.declared.Op.{Op}
 use Rattle.machine.specs.Machine.{opNumbered}
 use Rattle.table.specs.Layout.{exitAt, markOf, rowsRoom, exitsRoom}
-use Rattle.table.specs.ExitNumber.{targetOf, stateOf, instructionOf, largestExit}
+use Rattle.table.specs.ExitNumber.{targetOf, stateOf, instructionOf, largestExit, lostSlide}
 
 -- the pointers and the instruction of an exit
 abbrev pub pointersOf : ℕ → PointerState
@@ -23,14 +25,18 @@ opOf w = opNumbered (instructionOf w)
 abbrev pub tried : List ℕ → ℕ → PointerState → ℕ → ℕ
 tried exits region p k = exitAt exits region (stateNumber (attemptOf p k))
 
--- the first open one of j attempts from the k-th on, or 0
+-- the first one of j attempts from the k-th on that is not 0, or 0
 unfoldable pub openFrom : List ℕ → ℕ → PointerState → ℕ → ℕ → ℕ
 openFrom exits region p zero k = 0
 openFrom exits region p (suc j) k = cond (eqb (tried exits region p k) 0) (openFrom exits region p j (suc k)) (tried exits region p k)
 
--- the exit taken, of the eight attempts in their order; 0 where none is open (rule 8.3)
+-- the exit that a run comes to, of the eight attempts in their order; 0 where none is open (rule 8.3)
 abbrev pub exitOf : List ℕ → ℕ → PointerState → ℕ
 exitOf exits region p = openFrom exits region p 8 0
+
+-- an exit by which no step is made: there is none (rule 11.1), or it is a lost slide (rule 16.6)
+abbrev pub ends : ℕ → Bool
+ends w = eqb w 0 || eqb w lostSlide
 
 -- some number below n passes; every one does
 unfoldable pub any : (ℕ → Bool) → ℕ → Bool
@@ -53,20 +59,24 @@ tooShort n rows exits = ltb (length rows) (rowsRoom n) || ltb (length exits) (ex
 abbrev pub wrongMark : List ℕ → ℕ → Bool
 wrongMark rows region = ltb 1 (markOf rows region)
 
--- an exit above the largest, or whose target is no region; 0, which is no exit, reads as target 0
-abbrev pub wrongExit : ℕ → ℕ → Bool
-wrongExit n w = ltb largestExit w || leb n (targetOf w)
+-- the largest number that stands for something: in edition 2 that of a lost slide (rule 16.5)
+abbrev pub largestIn : Edition → ℕ
+largestIn e = byEdition e largestExit lostSlide
 
-abbrev pub wrongExits : ℕ → List ℕ → ℕ → Bool
-wrongExits n exits region = any (λ s. wrongExit n (exitAt exits region s)) 8
+-- an exit above the largest, or whose target is no region; 0, which is no exit, and a lost slide read as target 0
+abbrev pub wrongExit : ℕ → ℕ → ℕ → Bool
+wrongExit largest n w = ltb largest w || leb n (targetOf w)
 
-abbrev pub wrongTable : ℕ → List ℕ → List ℕ → Bool
-wrongTable n rows exits =
+abbrev pub wrongExits : ℕ → ℕ → List ℕ → ℕ → Bool
+wrongExits largest n exits region = any (λ s. wrongExit largest n (exitAt exits region s)) 8
+
+abbrev pub wrongTable : Edition → ℕ → List ℕ → List ℕ → Bool
+wrongTable e n rows exits =
     wrongCount n
-    || (tooShort n rows exits || (any (wrongMark rows) n || any (wrongExits n exits) n))
+    || (tooShort n rows exits || (any (wrongMark rows) n || any (wrongExits (largestIn e) n exits) n))
 
-abbrev pub validOf : ℕ → List ℕ → List ℕ → Bool
-validOf n rows exits = not (wrongTable n rows exits)
+abbrev pub validOf : Edition → ℕ → List ℕ → List ℕ → Bool
+validOf e n rows exits = not (wrongTable e n rows exits)
 
 -- what a run may rely on in a table that is not refused
 pub record Good (n : ℕ) (rows exits : List ℕ) : Type 0 where

@@ -7,6 +7,7 @@ ghost use Rattle.interpreter.specs.Table.{every, Good};
 ghost use Rattle.interpreter.specs.Forever.{closed, onward, numbered, answer};
 use crate::Forever;
 use crate::validity::valid;
+use base::edition::Edition;
 use table::MARK;
 use table::exit_cell;
 use table::row_cell;
@@ -58,11 +59,11 @@ fn all_onward(rows: &[u32], exits: &[u32], n: usize) -> bool
     true
 }
 
-// Whether the table runs forever (rule 7.5); refusal 10 as for the run (rule 12.6).
+// Whether the table runs forever (rule 7.5); refusal 10 as for a run of edition 1 (rules 12.6, 16.7).
 pub fn determine_runs_forever(n: usize, rows: &[u32], exits: &[u32]) -> Forever
     ensures { λ r. ⌜ numbered r ≡ answer n (now (rows .entry)) (now (exits .entry)) ⌝ }
 {
-    let ok = valid(n, rows, exits);
+    let ok = valid(n, rows, exits, Edition::Rust);
     if !ok {
         return Forever::Refused;
     }

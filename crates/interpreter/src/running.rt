@@ -1,5 +1,5 @@
 // Steps until a stop, from any place and from the start.
-ghost use Rattle.machine.specs.Machine.{given};
+ghost use Rattle.machine.specs.Machine.{given, asks};
 ghost use Rattle.machine.specs.Held.{slices};
 ghost use Rattle.interpreter.specs.Table.{Good};
 ghost use Rattle.interpreter.specs.Resume.{Placed, Resumed, Started, Resumable};
@@ -11,6 +11,9 @@ use crate::stepping::Moved;
 use crate::stepping::step;
 use crate::validity::WRONG_TABLE;
 use crate::validity::valid;
+use base::edition::UNKNOWN_EDITION;
+use base::edition::edition_of;
+use base::edition::unknown_edition;
 use base::fill::fill_i64;
 use base::fill::fill_u8;
 use flow::PointerState;
@@ -95,23 +98,34 @@ fn run_valid(
     resume(n, rows, exits, terms, input, stack, kinds, values, from)
 }
 
-// The run of any table: refusal 10, or where it stopped.
+// The run of any table, with the edition by its number: refusal 15, refusal 10, or where it stopped.
 pub fn run(
     n: usize,
     rows: &[u32],
     exits: &[u32],
-    terms: Terms,
+    edition: u32,
+    limit: u64,
+    abstract_mode: bool,
     input: &[u8],
     stack: &mut [i64],
     kinds: &mut [u8],
     values: &mut [i64],
 ) -> Ran
-    ensures { λ r. ⌜ Outcome n (now (rows .entry)) (now (exits .entry)) (given terms (now (input .entry))) (slices (now (stack .entry)) (now (kinds .entry)) (now (values .entry))) r (slices (now (stack .exit)) (now (kinds .exit)) (now (values .exit))) ⌝ }
-    ensures { λ r. ⌜ Resumable n (now (rows .entry)) (now (exits .entry)) (given terms (now (input .entry))) (slices (now (stack .entry)) (now (kinds .entry)) (now (values .entry))) r (slices (now (stack .exit)) (now (kinds .exit)) (now (values .exit))) ⌝ }
+    ensures { λ r. ⌜ Outcome n (now (rows .entry)) (now (exits .entry)) (asks edition limit «abstract_mode» (now (input .entry))) (slices (now (stack .entry)) (now (kinds .entry)) (now (values .entry))) r (slices (now (stack .exit)) (now (kinds .exit)) (now (values .exit))) ⌝ }
+    ensures { λ r. ⌜ Resumable n (now (rows .entry)) (now (exits .entry)) (asks edition limit «abstract_mode» (now (input .entry))) (slices (now (stack .entry)) (now (kinds .entry)) (now (values .entry))) r (slices (now (stack .exit)) (now (kinds .exit)) (now (values .exit))) ⌝ }
 {
-    let ok = valid(n, rows, exits);
+    if unknown_edition(edition) {
+        return Ran::Refused(UNKNOWN_EDITION);
+    }
+    let known = edition_of(edition);
+    let ok = valid(n, rows, exits, known);
     if !ok {
         return Ran::Refused(WRONG_TABLE);
     }
+    let terms = Terms {
+        edition: known,
+        limit,
+        abstract_mode,
+    };
     Ran::Finished(run_valid(n, rows, exits, terms, input, stack, kinds, values))
 }

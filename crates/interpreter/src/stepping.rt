@@ -8,7 +8,7 @@ ghost use Rattle.table.specs.Layout.{rowsRoom, exitsRoom};
 ghost use Rattle.table.specs.ExitNumber.{targetOf};
 ghost use Rattle.machine.specs.Machine.{given};
 ghost use Rattle.machine.specs.Held.{slices};
-ghost use Rattle.interpreter.specs.Table.{exitOf, Good};
+ghost use Rattle.interpreter.specs.Table.{exitOf, ends, Good};
 ghost use Rattle.interpreter.specs.Resume.{Placed};
 ghost use Rattle.interpreter.specs.Moving.{Gone, Stepped};
 use crate::State;
@@ -16,6 +16,7 @@ use flow::PointerState;
 use machine::Done;
 use machine::Stop;
 use machine::Terms;
+use table::LOST_SLIDE;
 use table::SIZE;
 use table::exit_cell;
 use table::instruction_of;
@@ -29,7 +30,7 @@ pub enum Moved {
     Halted(Stop),
 }
 
-// The first open exit of a region in the order of the attempts, or 0.
+// The first exit of a region that is not 0, in the order of the attempts, or 0.
 fn open_exit(exits: &[u32], region: u32, p: PointerState) -> u32
     requires { ⌜ (region < 65536) × (exitsRoom (region + 1) ≤ length (now exits)) ⌝ }
     requires { ⌜ Valid p ⌝ }
@@ -91,7 +92,19 @@ fn go_through(
     }
 }
 
-// One step: NeedsInput where input is awaited, Completed where no attempt is open, else through the first open exit.
+// Whether no step is made by an exit: there is none, or it is a lost slide. That one stands in a table is for edition 2
+// alone: in edition 1 it is refused.
+fn ends(w: u32) -> bool
+    ensures { λ r. ⌜ r ≡ ends w ⌝ }
+{
+    if w == 0 {
+        return true;
+    }
+    w == LOST_SLIDE
+}
+
+// One step: NeedsInput where input is awaited, Completed where no attempt is open or a lost slide comes first, else through
+// the first open exit.
 pub fn step(
     n: usize,
     rows: &[u32],
@@ -115,7 +128,7 @@ pub fn step(
     let region = at.region;
     let pointers = core.pointers;
     let w = open_exit(exits, region, pointers);
-    if w == 0 {
+    if ends(w) {
         return Moved::Halted(Stop::Completed);
     }
     go_through(n, rows, terms, input, stack, kinds, values, at, w)

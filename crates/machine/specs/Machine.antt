@@ -1,10 +1,11 @@
 -- What an instruction works on, and what each of the seventeen does to it (rules 9, 10, 11). Assumes nothing.
-use mathlib.Core.Bool.{true, cond}
+use mathlib.Core.Bool.{Bool, true, cond}
 use mathlib.Core.List.{List, [], _∷_, _++_}
 use Prim.Native.Nat.{ℕ}
 use lib.Dec.{ltb}
 use lib.ListN.{length, getD}
 use lib.IntN.{ℤ, pos}
+use Rattle.base.specs.Edition.{editionOf}
 use Rattle.flow.specs.declared.PointerState.{PointerState}
 use Rattle.flow.specs.Pointer.{rotated, switched}
 use Rattle.text.specs.declared.number.Number.{Number}
@@ -42,8 +43,8 @@ statusOf StackFull = 4
 statusOf OutputFull = 5
 statusOf BadInput = 6
 
--- what a run is given besides its table and its room: its terms (the limit, and whether it is in abstract mode), and the
--- input's bytes
+-- what a run is given besides its table and its room: its terms (the edition, the limit, and whether it is in abstract mode),
+-- and the input's bytes
 pub record Given : Type 0 where
   pub terms : Terms
   pub input : List ℕ
@@ -53,7 +54,23 @@ given terms input = record { terms = terms; input = input }
 
 -- the same under another limit
 abbrev pub underLimit : ℕ → Given → Given
-underLimit k g = record { terms = record { limit = k; «abstract_mode» = g .terms .«abstract_mode» }; input = g .input }
+underLimit k g = record {
+  terms = record { edition = g .terms .edition; limit = k; «abstract_mode» = g .terms .«abstract_mode» };
+  input = g .input;
+}
+
+-- what a call asks for: the same, with the edition by its number (rule 16.1)
+pub record Asks : Type 0 where
+  pub edition : ℕ
+  pub limit : ℕ
+  pub mode : Bool
+  pub input : List ℕ
+
+abbrev pub asks : ℕ → ℕ → Bool → List ℕ → Asks
+asks edition limit mode input = record { edition = edition; limit = limit; mode = mode; input = input }
+
+abbrev pub givenOf : Asks → Given
+givenOf a = given (record { edition = editionOf (a .edition); limit = a .limit; «abstract_mode» = a .mode }) (a .input)
 
 -- the room of a run: how many values the stack holds, and how many outputs there may be
 pub record RunRoom : Type 0 where

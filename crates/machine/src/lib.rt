@@ -2,6 +2,7 @@
 pub mod output;
 
 use crate::output::Wrote;
+use base::edition::Edition;
 use flow::PointerState;
 use stack::Grown;
 use stack::Pairing;
@@ -32,8 +33,10 @@ pub enum Op {
     IntOut,
 }
 
-// The terms of a run: the steps that it may make, and whether it only finds out that input is needed.
+// The terms of a run: the edition of the rules, the steps that it may make, and whether it only finds out that input is
+// needed.
 pub struct Terms {
+    pub edition: Edition,
     pub limit: u64,
     pub abstract_mode: bool,
 }

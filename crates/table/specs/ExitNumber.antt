@@ -18,3 +18,7 @@ instructionOf exit = (exit - 1) / 524288
 -- the largest: that of region 65,535 in state 7 with instruction 17; one above it is refusal 10 (rule 12.2)
 abbrev pub largestExit : ℕ
 largestExit = 9437184
+
+-- one above it: in edition 2 the exit of a slide that is lost (rule 16.5); it names no region
+abbrev pub lostSlide : ℕ
+lostSlide = 9437185

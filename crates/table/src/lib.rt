@@ -16,6 +16,11 @@ pub const FIRST_COLUMN: usize = 3;
 
 pub const MARK: usize = 4;
 
+// The largest exit number, and one above it: in edition 2 the exit of a slide that is lost (rule 16.5).
+pub const LARGEST_EXIT: u32 = 9437184;
+
+pub const LOST_SLIDE: u32 = 9437185;
+
 // The cell of a field of region r's row.
 pub fn row_cell(r: usize, field: usize) -> usize
     requires { ⌜ (r ≤ 65536) × (field < 5) ⌝ }

@@ -4,6 +4,7 @@ use mathlib.Core.Bool.{true, false}
 use borrow.Author.Tests.{not-true, not-false}
 use borrow.Author.Needs.{needs}
 use denote.Ref.{now}
+use Rattle.base.specs.declared.edition.Edition.the-variants.{Rust}
 use Rattle.interpreter.proofs.ValidLaws.{good-of}
 use Rattle.interpreter.proofs.Answering.{verdictOf, forever-refuses, forever-is}
 use Rattle.interpreter.proofs.endless.determine_runs_forever.Statement.{statement}
@@ -22,7 +23,7 @@ all-onward-requires : tie.Need-all-onward-requires
 all-onward-requires c κs =
     let a = c .before .before .before .before .args in
     let v = c .before .valid in
-    good-of (a .n) (now (a .rows)) (now (a .exits)) (sym (v .ensures) ∙ not-false (v .result) (c .if1 .left))
+    good-of Rust (a .n) (now (a .rows)) (now (a .exits)) (sym (v .ensures) ∙ not-false (v .result) (c .if1 .left))
 
 returns-2 : tie.Need-returns-2
 unfolding verdictOf

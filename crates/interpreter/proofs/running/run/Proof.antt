@@ -1,52 +1,89 @@
 -- `interpreter::running::run` meets its contract. What the slices hold at the end is what the definition says of every cell. Assumes nothing.
-use mathlib.Core.Path.{_≡_, sym, _∙_}
-use mathlib.Core.Bool.{true}
+use mathlib.Core.Path.{_≡_, sym, subst, _∙_}
+use mathlib.Core.Bool.{true, false}
 use borrow.Author.Tests.{not-true, not-false}
 use borrow.Author.Needs.{needs}
 use denote.Ref.{now}
-use Rattle.machine.specs.Machine.{Given, given}
+use Rattle.base.specs.declared.edition.Edition.{Edition}
+use Rattle.base.specs.Edition.{editionOf, unknownEdition}
+use Rattle.machine.specs.Machine.{Asks, asks, givenOf, given}
 use Rattle.machine.specs.Held.{Slices, slices}
 use Rattle.machine.proofs.Only.{AsLong}
 use Rattle.interpreter.specs.Table.{validOf}
 use Rattle.interpreter.specs.Outcome.{endOf}
-use Rattle.interpreter.proofs.Answering.{run-refuses, run-finishes}
+use Rattle.interpreter.specs.Resume.{Started}
+use Rattle.interpreter.proofs.Answering.{answer-unknown, answer-wrong, answer-right, run-refuses, run-finishes}
 use Rattle.interpreter.proofs.Settled.{settled}
 use Rattle.interpreter.proofs.ValidLaws.{good-of}
 use Rattle.interpreter.proofs.running.run.Statement.{statement}
 use Rattle.interpreter.proofs.running.run.Tie as tie
 
--- from where the table is judged back to the start; from the run's call back to there; from its answer back to the call
-abbrev begin : tie.After-valid → tie.Start
+-- from the test of the edition back to the start; from that of the table back to there; from the run's call back to it; from its
+-- answer back to the call
+abbrev begin : tie.After-unknown-edition → tie.Start
 begin c = c .before .before .before .before .before
 
-abbrev passed : tie.After-run-valid-arg3 → tie.Else1
+abbrev known : tie.After-valid → tie.Else1
+known c = c .before .before
+
+abbrev passed : tie.After-run-valid-arg3 → tie.Else2
 passed c = c .before .before .before
 
 abbrev ended : tie.After-values → tie.After-run-valid
 ended c = c .before .before .before .before
 
-abbrev what : tie.Start → Given
-what s = given (s .args .terms) (now (s .args .input))
+abbrev start : tie.After-valid → tie.Start
+start c = begin (known c .before)
+
+abbrev what : tie.Start → Asks
+what s = asks (s .args .edition) (s .args .limit) (s .args .abstract-mode) (now (s .args .input))
 
 abbrev held : tie.Start → Slices
 held s = slices (now (s .args .stack)) (now (s .args .kinds)) (now (s .args .values))
 
-right : (c : tie.Else1) → let a = begin (c .before) .args in validOf (a .n) (now (a .rows)) (now (a .exits)) ≡ true
-right c = sym (c .before .valid .ensures) ∙ not-false (c .before .valid .result) (c .if1 .left)
+named : (c : tie.Else1) → unknownEdition (begin (c .before) .args .edition) ≡ false
+named c = sym (c .before .unknown-edition .ensures) ∙ c .if1 .left
 
-valid-requires : tie.Need-valid-requires
-valid-requires c κs = search needs
+-- the test of the table, in the edition of the number
+judged : (c : tie.After-valid) → let a = start c .args in c .valid .result ≡ validOf (editionOf (a .edition)) (a .n) (now (a .rows)) (now (a .exits))
+judged c = let a = start c .args in subst (λ (e : Edition). c .valid .result ≡ validOf e (a .n) (now (a .rows)) (now (a .exits))) (c .before .edition-of .ensures) (c .valid .ensures)
+
+right : (c : tie.Else2) → let a = start (c .before) .args in validOf (editionOf (a .edition)) (a .n) (now (a .rows)) (now (a .exits)) ≡ true
+right c = sym (judged (c .before)) ∙ not-false (c .before .valid .result) (c .if2 .left)
+
+unknown-edition-requires : tie.Need-unknown-edition-requires
+unknown-edition-requires c κs = search needs
 
 returns : tie.Need-returns
 returns c =
     let s = begin (c .before) in
-    let v = c .before .valid in
-    (run-refuses (s .args .n) (now (s .args .rows)) (now (s .args .exits)) (what s) (held s) (sym (v .ensures) ∙ not-true (v .result) (c .if1 .taken)), tt)
+    let a = s .args in
+    let u = c .before .unknown-edition in (
+      run-refuses (a .n) (now (a .rows)) (now (a .exits)) (what s) (held s) 14
+          (answer-unknown (a .n) (now (a .rows)) (now (a .exits)) (what s) (held s) (sym (u .ensures) ∙ c .if1 .taken)),
+      tt,
+    )
+
+edition-of-requires : tie.Need-edition-of-requires
+edition-of-requires c κs = search needs
+
+valid-requires : tie.Need-valid-requires
+valid-requires c κs = search needs
+
+returns-2 : tie.Need-returns-2
+returns-2 c =
+    let s = start (c .before) in
+    let a = s .args in
+    let v = c .before .valid in (
+      run-refuses (a .n) (now (a .rows)) (now (a .exits)) (what s) (held s) 9
+          (answer-wrong (a .n) (now (a .rows)) (now (a .exits)) (what s) (held s) (named (known (c .before))) (sym (judged (c .before)) ∙ not-true (v .result) (c .if2 .taken))),
+      tt,
+    )
 
 run-valid-requires : tie.Need-run-valid-requires
 run-valid-requires c κs =
-    let s = begin (passed c .before) in
-    good-of (s .args .n) (now (s .args .rows)) (now (s .args .exits)) (right (passed c))
+    let a = start (passed c .before) .args in
+    good-of (editionOf (a .edition)) (a .n) (now (a .rows)) (now (a .exits)) (right (passed c))
 
 same-length : tie.Need-same-length
 same-length c = search needs
@@ -57,26 +94,36 @@ same-length-2 c = search needs
 same-length-3 : tie.Need-same-length-3
 same-length-3 c = search needs
 
-returns-2 : tie.Need-returns-2
-returns-2 c =
+returns-3 : tie.Need-returns-3
+returns-3 c =
     let r = ended c .run-valid in
     let p = passed (ended c .before) in
-    let s = begin (p .before) in
+    let s = start (p .before) in
+    let n = s .args .n in
     let rows = now (s .args .rows) in
     let exits = now (s .args .exits) in
     let l′ = slices (r .last .1 .1 .1 .1 .1 .0) (r .last .1 .1 .1 .1 .1 .1 .0) (r .last .1 .1 .1 .1 .1 .1 .1 .0) in
     let long : AsLong l′ (held s) = record { stack = r .kept .1 .1 .1 .1 .1 .0; kinds = r .kept .1 .1 .1 .1 .1 .1 .0; values = r .kept .1 .1 .1 .1 .1 .1 .1 .0 } in
-    let e = settled (s .args .n) (endOf rows exits (what s) (held s)) l′ (held s) (r .result) long (r .ensures) in
-    (run-finishes (s .args .n) rows exits (what s) (held s) (right p) (e .0) (e .1), (good-of (s .args .n) rows exits (right p), r .ensures))
+    let ran : Started n rows exits (givenOf (what s)) (held s) l′ (r .result) =
+    subst
+    (λ (e : Edition). Started n rows exits (given (record { edition = e; limit = s .args .limit; «abstract_mode» = s .args .abstract-mode }) (now (s .args .input))) (held s) l′ (r .result))
+    (p .before .before .edition-of .ensures) (r .ensures) in
+    let e = settled n (endOf rows exits (givenOf (what s)) (held s)) l′ (held s) (r .result) long ran in (
+      run-finishes n rows exits (what s) (held s) (answer-right n rows exits (what s) (held s) (named (known (p .before))) (right p)) (e .0) (e .1),
+      (good-of (editionOf (s .args .edition)) n rows exits (right p), ran),
+    )
 
 pub run-spec : {M : Type 1} → statement M
 run-spec =
     tie.close
     (tie.spec
-    valid-requires
+    unknown-edition-requires
     returns
+    edition-of-requires
+    valid-requires
+    returns-2
     run-valid-requires
     same-length
     same-length-2
     same-length-3
-    returns-2)
+    returns-3)

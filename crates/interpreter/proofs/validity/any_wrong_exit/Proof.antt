@@ -14,10 +14,10 @@ use Rattle.interpreter.proofs.validity.any_wrong_exit.Tie as tie
 -- `interpreter::validity::any_wrong_exit` meets its contract. The loop's invariant: none of the exits passed is wrong. Assumes nothing.
 
 abbrev Inv-loop : tie.InvT-loop
-Inv-loop exits n room i₀ i = (i ≤ room) × (any (λ k. wrongExit n (getD exits k 0)) i ≡ false)
+Inv-loop exits n largest room i₀ i = (i ≤ room) × (any (λ k. wrongExit largest n (getD exits k 0)) i ≡ false)
 
 abbrev μ-loop : tie.MeasureT-loop
-μ-loop exits n room i₀ i = room - i
+μ-loop exits n largest room i₀ i = room - i
 
 exits-room-requires : tie.Need-exits-room-requires Inv-loop μ-loop
 exits-room-requires c κs = search needs
@@ -41,9 +41,9 @@ returns c =
     let the-args = c .before .before .before .before .before .before .before .args in
     let the-loop = c .before .before .before .before .loop in
     let the-exits-room = c .before .before .before .before .before .exits-room in
-    let f : ℕ → Bool = λ k. wrongExit (the-args .n) (getD (now (the-args .exits)) k 0) in
+    let f : ℕ → Bool = λ k. wrongExit (the-args .largest) (the-args .n) (getD (now (the-args .exits)) k 0) in
     sym
-    (sym (wrong-by-cell (the-args .n) (now (the-args .exits)))
+    (sym (wrong-by-cell (the-args .largest) (the-args .n) (now (the-args .exits)))
     ∙ any-yes f (the-loop .i) (exitsRoom (the-args .n)) (omega (arith, the-exits-room .ensures))
     (sym (c .before .wrong-exit .ensures) ∙ c .if1 .taken))
 
@@ -59,16 +59,16 @@ loop-again : tie.Need-loop-again Inv-loop μ-loop
 loop-again c =
     let the-args = c .before .before .before .before .before .before .before .args in
     let the-loop = c .before .before .before .before .loop in
-    let f : ℕ → Bool = λ k. wrongExit (the-args .n) (getD (now (the-args .exits)) k 0) in
+    let f : ℕ → Bool = λ k. wrongExit (the-args .largest) (the-args .n) (getD (now (the-args .exits)) k 0) in
     (omega arith, any-more f (the-loop .i) (sym (c .before .wrong-exit .ensures) ∙ c .if1 .left) (the-loop .inv .1))
 
 returns-2 : tie.Need-returns-2 Inv-loop μ-loop
 returns-2 c =
     let the-args = c .before .before .before .before .args in
     let the-exits-room = c .before .before .exits-room in
-    let f : ℕ → Bool = λ k. wrongExit (the-args .n) (getD (now (the-args .exits)) k 0) in
+    let f : ℕ → Bool = λ k. wrongExit (the-args .largest) (the-args .n) (getD (now (the-args .exits)) k 0) in
     let e : c .before .loop .i ≡ exitsRoom (the-args .n) = omega (arith, the-exits-room .ensures) in
-    sym (sym (wrong-by-cell (the-args .n) (now (the-args .exits))) ∙ ap (any f) (sym e) ∙ c .before .loop .inv .1)
+    sym (sym (wrong-by-cell (the-args .largest) (the-args .n) (now (the-args .exits))) ∙ ap (any f) (sym e) ∙ c .before .loop .inv .1)
 
 pub any-wrong-exit-spec : {M : Type 1} → statement M
 any-wrong-exit-spec =

@@ -69,14 +69,18 @@ returns-5 c =
     let e = c .before .before in
     rw (right-count (counted e), right-lengths e, sym (c .before .any-wrong-mark .ensures) ∙ c .if5 .taken) refl
 
+largest-in-requires : tie.Need-largest-in-requires
+largest-in-requires c κs = search needs
+
 any-wrong-exit-requires : tie.Need-any-wrong-exit-requires
 any-wrong-exit-requires c κs = search needs
 
 returns-6 : tie.Need-returns-6
 returns-6 c =
-    let m = c .before .before in
+    let m = c .before .before .before in
     let e = m .before in
-    rw (right-count (counted e), right-lengths e, sym (m .any-wrong-mark .ensures) ∙ c .before .if5 .left) (ap not (c .any-wrong-exit .ensures))
+    rw (right-count (counted e), right-lengths e, sym (m .any-wrong-mark .ensures) ∙ c .before .before .if5 .left, ← c .before .largest-in .ensures)
+    (ap not (c .any-wrong-exit .ensures))
 
 pub valid-spec : {M : Type 1} → statement M
 valid-spec =
@@ -90,5 +94,6 @@ valid-spec =
     returns-4
     any-wrong-mark-requires
     returns-5
+    largest-in-requires
     any-wrong-exit-requires
     returns-6)

@@ -8,12 +8,12 @@ use Rattle.interpreter.proofs.validity.wrong_exit.Statement.{statement}
 use Rattle.interpreter.proofs.validity.wrong_exit.Tie as tie
 
 returns : tie.Need-returns
-returns c = rw (lt-ltb 9437184 (c .before .args .w) (c .if1 .taken)) refl
+returns c = rw (lt-ltb (c .before .args .largest) (c .before .args .w) (c .if1 .taken)) refl
 
 returns-2 : tie.Need-returns-2
 returns-2 c =
     let the-args = c .before .before .args in
-    rw (c .if2 .taken, lt-leb (the-args .n) 0 (omega arith)) refl
+    rw (c .if2 .taken, le-ltb (the-args .largest) 0 (omega arith), lt-leb (the-args .n) 0 (omega arith)) refl
 
 target-of-requires : tie.Need-target-of-requires
 target-of-requires c κs = search needs
@@ -25,7 +25,7 @@ returns-3 : tie.Need-returns-3
 returns-3 c =
     let the-args = c .before .before .before .args in
     let the-if1 = c .before .before .if1 in
-    rw (le-ltb 9437184 (the-args .w) (the-if1 .left)) (ap (leb (the-args .n)) (c .target-of .ensures))
+    rw (le-ltb (the-args .largest) (the-args .w) (the-if1 .left)) (ap (leb (the-args .n)) (c .target-of .ensures))
 
 pub wrong-exit-spec : {M : Type 1} → statement M
 wrong-exit-spec = tie.close (tie.spec returns returns-2 target-of-requires cast-result returns-3)
