@@ -1,13 +1,15 @@
 -- Black is a node as region 0 alone, and its exits have no instruction (rule 4.6).
 --     black-node       a node with a black codel is region 0
 --     black-silent     an open attempt of a black region has no instruction
---     black-exit       the number of its exit says none
+--     black-exit       the number of its exit says none, where it is not that of a lost slide in edition 2
 -- Assumes nothing.
 use mathlib.Core.Path.{_≡_, refl, sym, _∙_}
 use mathlib.Core.List.{List}
+use mathlib.Core.Logic.{_⊎_, inl, inr}
 use Prim.Native.Nat.{ℕ, _<_}
 use native.Mathlib.Omega.{arith}
 use lib.ListN.{length, getD}
+use Rattle.base.specs.declared.edition.Edition.{Edition}
 use Rattle.flow.specs.Pointer.{Valid, stateNumber}
 use Rattle.flow.proofs.Order.{number-small}
 use Rattle.flow.specs.declared.PointerState.{PointerState}
@@ -17,11 +19,11 @@ use Rattle.colour.specs.Instruction.{none}
 use Rattle.colour.specs.Palette.{black}
 use Rattle.cfg.specs.Nodes as nodes
 use Rattle.cfg.specs.Nodes.{Adds, astray, over, Found, entry, next, Node}
-use Rattle.cfg.specs.Table.{Exit, no-node, shut, leads}
+use Rattle.cfg.specs.Table.{Exit, no-node, shut, leads, stuck}
 use Rattle.exit.specs.declared.attempt.Way.{Way}
 use Rattle.exit.specs.declared.slide.Sight.the-variants.{White}
 use Rattle.exit.specs.Attempt.{Attempt, step, glide, lost}
-use Rattle.exit.specs.Opens.{regionAt, Opens, beside, across}
+use Rattle.exit.specs.Opens.{regionAt, Opens, beside, across, Stuck}
 use Rattle.exit.proofs.SlideLaws.{Sighted, at-white, look-sighted, white-inside, coloured-inside, coloured-colour}
 use Rattle.exit.proofs.SlideEnds.{landing}
 use Rattle.picture.specs.Picture.{Picture, Inside, codels, colourAt, indexOf, codelColour, Sound}
@@ -81,10 +83,11 @@ module _ {p : Picture} {map : List ℕ} {n : ℕ} (S : Sound p) (M : IsMap (grid
       rw (joined-colour (M .apart (t .codel) j inside h (t .leaves .own ∙ sym own)) ∙ dark)
   black-silent (across t) j h own dark = refl
 
-  pub black-exit : {r x : ℕ} {q : PointerState} → Valid q → Exit p map r q x → (j : ℕ) → j < codels p → getD map j 0 ≡ r → codelColour p j ≡ black → instructionOf x ≡ none
-  black-exit v (no-node a) j h own dark = refl
-  black-exit v (shut a s) j h own dark = refl
+  pub black-exit : {e : Edition} {r x : ℕ} {q : PointerState} → Valid q → Exit e p map r q x → (j : ℕ) → j < codels p → getD map j 0 ≡ r → codelColour p j ≡ black → (instructionOf x ≡ none) ⊎ Stuck p map r q e
+  black-exit v (no-node a) j h own dark = inl refl
+  black-exit v (shut a s) j h own dark = inl refl
+  black-exit v (stuck a s) j h own dark = inr s
   black-exit v (leads {target = target} {i = i} {u = u} a o) j h own dark =
       let l = opens-leads S M long (a .found) v o in
       let low : target < 65536 = omega (arith, l .low, map-few (gridOf p) map n M, S .few) in
-      instruction-back target (stateNumber u) i low (number-small u (l .valid)) ∙ black-silent o j h own dark
+      inl (instruction-back target (stateNumber u) i low (number-small u (l .valid)) ∙ black-silent o j h own dark)

@@ -1,12 +1,15 @@
 -- Where the exits of a table lead.
 --     opens-leads    an open attempt of a found region leads to a node, in a state, with an instruction of rule 1.5
---     exit-fits      an exit is at most 9,437,184, and what it says of a target is a region's number, as the run asks
+--     open-fits      the number of an open attempt is at most 9,437,184
+--     exit-fits      an exit is at most the largest of its edition, and what it says of a target is a region's number, as the
+--                    run asks
 -- Assumes nothing.
-use mathlib.Core.Path.{_≡_, sym, subst, _∙_}
+use mathlib.Core.Path.{_≡_, refl, sym, subst, _∙_}
 use mathlib.Core.List.{List}
 use Prim.Native.Nat.{ℕ, _<_, _≤_}
 use native.Mathlib.Omega.{arith}
 use lib.ListN.{length}
+use Rattle.base.specs.declared.edition.Edition.{Edition}
 use Rattle.flow.specs.Pointer.{Valid, stateNumber}
 use Rattle.flow.proofs.Order.{valid-number, number-small}
 use Rattle.flow.specs.declared.PointerState.{PointerState}
@@ -17,12 +20,12 @@ use Rattle.region.specs.Grid.{gridOf}
 use Rattle.region.specs.Region.{IsMap}
 use Rattle.region.proofs.MapLaws.{map-few}
 use Rattle.table.specs.Layout.{exitAt}
-use Rattle.table.specs.ExitNumber.{targetOf, largestExit}
-use Rattle.table.proofs.Exits.{target-back, in-range}
-use Rattle.exit.specs.Opens.{regionAt, Opens}
+use Rattle.table.specs.ExitNumber.{exitNumber, targetOf, largestExit, largestIn}
+use Rattle.table.proofs.Exits.{target-back, in-range, largest-in}
+use Rattle.exit.specs.Opens.{regionAt, Opens, lost}
 use Rattle.exit.proofs.Opening.{reached, opens-known}
 use Rattle.cfg.specs.Nodes.{Found, Node}
-use Rattle.cfg.specs.Table.{Exit, no-node, shut, leads, Builds}
+use Rattle.cfg.specs.Table.{Exit, no-node, shut, leads, stuck, Builds}
 use Rattle.cfg.proofs.NodeLaws.{joined-colour, opens-found}
 
 -- what a target, a state and an instruction of an exit are
@@ -31,6 +34,10 @@ pub record Leads (p : Picture) (map : List ℕ) (n target : ℕ) (u : PointerSta
   pub valid : Valid u
   pub known : i ≤ 17
   pub node : Node p map target
+
+-- an exit of a table of n regions
+abbrev pub Fits : Edition → ℕ → ℕ → Type 0
+Fits e n x = (x ≤ largestIn e) × (targetOf x < n)
 
 module _ {p : Picture} {map : List ℕ} {n : ℕ} (S : Sound p) (M : IsMap (gridOf p) map n) (long : length map ≡ codels p) where
   colour-at : (a b : ℕ) → Inside p a b → codelColour p (indexOf p a b) ≡ colourAt p a b
@@ -57,19 +64,26 @@ module _ {p : Picture} {map : List ℕ} {n : ℕ} (S : Sound p) (M : IsMap (grid
   few : n ≤ 65536
   few = omega (arith, map-few (gridOf p) map n M, S .few)
 
-  none-fits : (0 ≤ largestExit) × (targetOf 0 < n)
-  none-fits = (omega arith, omega (arith, M .below 0 (first-in S)))
-
-  fits : {r x : ℕ} {q : PointerState} → Valid q → Exit p map r q x → (x ≤ largestExit) × (targetOf x < n)
-  fits v (no-node a) = none-fits
-  fits v (shut a s) = none-fits
-  fits v (leads {target = target} {i = i} {u = u} a o) =
-      let l = opens-leads (a .found) v o in
+  pub open-fits : {r target i : ℕ} {q u : PointerState} → Found p map r → Valid q → Opens p map r q target u i
+      → (exitNumber target (stateNumber u) i ≤ largestExit) × (targetOf (exitNumber target (stateNumber u) i) < n)
+  open-fits {target = target} {i = i} {u = u} f v o =
+      let l = opens-leads f v o in
       let t : target < 65536 = omega (arith, l .low, few) in
       let k = number-small u (l .valid) in
       (in-range target (stateNumber u) i t k (l .known), rw (target-back target (stateNumber u) i t k) (l .low))
 
+  some : 0 < n
+  some = omega (arith, M .below 0 (first-in S))
+
+  fits : {e : Edition} {r x : ℕ} {q : PointerState} → Valid q → Exit e p map r q x → Fits e n x
+  fits v (no-node a) = (omega arith, some)
+  fits v (shut a s) = (omega arith, some)
+  fits {e} v (leads a o) =
+      let l = open-fits (a .found) v o in
+      (omega (arith, l .0, largest-in e), l .1)
+  fits v (stuck a (lost t)) = (omega arith, some)
+
 -- the exits of a table
-pub exit-fits : {p : Picture} {map rows exits work : List ℕ} {n : ℕ} → Sound p → Builds p map rows exits work n → (r s : ℕ) → r < n → s < 8
-    → (exitAt exits r s ≤ largestExit) × (targetOf (exitAt exits r s) < n)
+pub exit-fits : {e : Edition} {p : Picture} {map rows exits work : List ℕ} {n : ℕ} → Sound p → Builds e p map rows exits work n → (r s : ℕ) → r < n → s < 8
+    → Fits e n (exitAt exits r s)
 exit-fits S B r s h k = fits S (B .regions) (B .map-long) (valid-number s k) (B .exit r s h k)

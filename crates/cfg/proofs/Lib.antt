@@ -9,6 +9,7 @@ pub mod Keeping
 pub mod Stages
 pub mod Refusing
 pub mod Leads
+pub mod Editions
 pub mod Ahead
 pub mod Black
 pub mod FirstIllegal

@@ -1,6 +1,7 @@
 -- The refusals of building: what each test says, and what a call that is not refused may rely on.
---     accepted        nothing is refused: the picture is sound and there is room
---     outcome-only    two outcomes for one input are one
+--     picture-accepted    nothing of a picture is refused: it is sound and there is room
+--     accepted            nothing is refused, so that this holds too
+--     outcome-only        two outcomes for one input are one
 -- Assumes nothing.
 use mathlib.Core.Path.{_≡_, refl, sym, ap, _∙_}
 use mathlib.Core.Bool.{Bool, true, false, not, _||_, true≢false}
@@ -16,14 +17,16 @@ use lib.ListN.{length, getD, take, drop, drop-of-length-le, take-append-drop, le
 use lib.Seq.{drop-cons, length-take-le, take-at, drop-at}
 use Rattle.base.specs.Numbers.{Numbers, numbers, first}
 use Rattle.base.specs.Limits.{wrongSide}
+use Rattle.base.specs.Edition.{unknownEdition}
+use Rattle.base.specs.declared.edition.Edition.{Edition}
 use Rattle.base.proofs.Refusals.{passed, no-row}
 use Rattle.base.proofs.Tests.{neither}
 use Rattle.base.proofs.Sides.{side}
 use Rattle.cfg.specs.declared.building.Built.{Built}
-use Rattle.cfg.specs.declared.building.Built.the-variants.{Done, Size, Codel, Grid, Bytes, Colour, White, Room}
+use Rattle.cfg.specs.declared.building.Built.the-variants.{Done, UnknownEdition, Size, Codel, Grid, Bytes, Colour, White, Room}
 use Rattle.cfg.specs.Table.{Builds}
 use Rattle.cfg.specs.Search.{Sized}
-use Rattle.cfg.specs.Build.{numbered, legalFirst, short, refusals, refusal, Enough, Written, Outcome, refused, done}
+use Rattle.cfg.specs.Build.{numbered, legalFirst, short, pictureRefusals, pictureRefusal, refusals, refusal, Enough, Written, Outcome, refused, done}
 use Rattle.table.specs.Layout.{rowsRoom, exitsRoom}
 use Rattle.picture.specs.Picture.{Picture, ceil, codels}
 use Rattle.picture.proofs.Codels.{cols-pos}
@@ -72,10 +75,15 @@ not-false : (b : Bool) → not b ≡ false → b ≡ true
 not-false true e = refl
 not-false false e = absurd (true≢false e)
 
+-- where nothing is refused, nothing of the picture is
+past-edition : (n : ℕ) (p : Picture) (m r e w : ℕ) (v : List ℕ) → numbers 0 v ≡ refusal n p m r e w → numbers 0 v ≡ pictureRefusal p m r e w
+unfolding refusal refusals pictureRefusal
+past-edition n p m r e w v h = passed _ 14 _ v _ _ h .1
+
 -- what a call that is not refused may rely on
-pub accepted : (p : Picture) (m r e w : ℕ) (v : List ℕ) → numbers 0 v ≡ refusal p m r e w → Enough p m r e w
-unfolding refusal refusals short
-accepted p m r e w v h =
+pub picture-accepted : (p : Picture) (m r e w : ℕ) (v : List ℕ) → numbers 0 v ≡ pictureRefusal p m r e w → Enough p m r e w
+unfolding pictureRefusal pictureRefusals short
+picture-accepted p m r e w v h =
     let a = passed _ 0 _ v _ _ h in
     let b = passed _ 5 _ v _ _ (a .1) in
     let c = passed _ 6 _ v _ _ (b .1) in
@@ -107,6 +115,9 @@ accepted p m r e w v h =
       work-in = ltb-false _ _ (three .1);
     }
 
+pub accepted : (n : ℕ) (p : Picture) (m r e w : ℕ) (v : List ℕ) → numbers 0 v ≡ refusal n p m r e w → Enough p m r e w
+accepted n p m r e w v h = picture-accepted p m r e w v (past-edition n p m r e w v h)
+
 -- a number names one case
 abbrev builtOf : Numbers → Built
 builtOf (numbers zero v) = Done (getD v 0 0)
@@ -118,10 +129,12 @@ builtOf (numbers (suc (suc (suc (suc (suc zero))))) v) = Size
 builtOf (numbers (suc (suc (suc (suc (suc (suc zero)))))) v) = Codel
 builtOf (numbers (suc (suc (suc (suc (suc (suc (suc zero))))))) v) = Grid
 builtOf (numbers (suc (suc (suc (suc (suc (suc (suc (suc zero)))))))) v) = Colour (getD v 1 0)
-builtOf (numbers (suc (suc (suc (suc (suc (suc (suc (suc (suc n))))))))) v) = White
+builtOf (numbers (suc (suc (suc (suc (suc (suc (suc (suc (suc zero))))))))) v) = White
+builtOf (numbers (suc (suc (suc (suc (suc (suc (suc (suc (suc (suc n)))))))))) v) = UnknownEdition
 
 named : (r : Built) → builtOf (numbered r) ≡ r
 named (Done n) = refl
+named UnknownEdition = refl
 named Size = refl
 named Codel = refl
 named Grid = refl
@@ -151,14 +164,14 @@ pub record Same (r r′ : Built) (map map′ rows rows′ exits exits′ work wo
   pub exits-same : exits ≡ exits′
   pub work-same : work ≡ work′
 
-pub outcome-only : {p : Picture} {map rows exits work : List ℕ} {r r′ : Built} {m m′ t t′ e e′ w w′ : List ℕ}
-    → Outcome p map rows exits work r m t e w → Outcome p map rows exits work r′ m′ t′ e′ w′ → Same r r′ m m′ t t′ e e′ w w′
+pub outcome-only : {n : ℕ} {p : Picture} {map rows exits work : List ℕ} {r r′ : Built} {m m′ t t′ e e′ w w′ : List ℕ}
+    → Outcome n p map rows exits work r m t e w → Outcome n p map rows exits work r′ m′ t′ e′ w′ → Same r r′ m m′ t t′ e e′ w w′
 outcome-only (refused {r = r} k v e n) (refused {r = r′} k′ v′ e′ n′) =
     record { answer = same-case r r′ (n ∙ sym e ∙ e′ ∙ sym n′); map-same = refl; rows-same = refl; exits-same = refl; work-same = refl }
 outcome-only (refused k v e n) (done e′ b′) = clash e e′
 outcome-only (done e b) (refused k v e′ n′) = clash e′ e
-outcome-only {p} {map} {rows} {exits} {work} (done e b) (done e′ b′) =
-    let s = accepted p (length map) (length rows) (length exits) (length work) (0 ∷ 0 ∷ []) (sym e) in
+outcome-only {n} {p} {map} {rows} {exits} {work} (done e b) (done e′ b′) =
+    let s = accepted n p (length map) (length rows) (length exits) (length work) (0 ∷ 0 ∷ []) (sym e) in
     let o = table-only (cols-pos (s .sound)) (b .builds) (b′ .builds) in
     record {
       answer = ap Done (o .4);
@@ -168,55 +181,65 @@ outcome-only {p} {map} {rows} {exits} {work} (done e b) (done e′ b′) =
       work-same = joined (codels p) (o .3) (b .work-rest ∙ sym (b′ .work-rest));
     }
 
--- the answer of each return of `check`: the tests that failed, and the one that held
-module _ (p : Picture) (m r e w : ℕ) where
-  pub on-height : wrongSide (p .height) ≡ true → numbers 1 (0 ∷ 0 ∷ []) ≡ refusal p m r e w
+-- the edition's test: an unknown one is refused, and past it a picture's own refusals count
+module _ (n : ℕ) (p : Picture) (m r e w : ℕ) where
+  pub on-unknown : unknownEdition n ≡ true → numbers 15 (0 ∷ 0 ∷ []) ≡ refusal n p m r e w
   unfolding refusal refusals first
+  on-unknown h = rw h
+
+  pub on-known : unknownEdition n ≡ false → pictureRefusal p m r e w ≡ refusal n p m r e w
+  unfolding refusal refusals pictureRefusal first
+  on-known h = rw h
+
+-- the answer of each other return of `check`: the tests that failed, and the one that held
+module _ (p : Picture) (m r e w : ℕ) where
+  pub on-height : wrongSide (p .height) ≡ true → numbers 1 (0 ∷ 0 ∷ []) ≡ pictureRefusal p m r e w
+  unfolding pictureRefusal pictureRefusals first
   on-height h = rw h
 
   module _ (h : wrongSide (p .height) ≡ false) where
-    pub on-width : wrongSide (p .width) ≡ true → numbers 1 (0 ∷ 0 ∷ []) ≡ refusal p m r e w
-    unfolding refusal refusals first
+    pub on-width : wrongSide (p .width) ≡ true → numbers 1 (0 ∷ 0 ∷ []) ≡ pictureRefusal p m r e w
+    unfolding pictureRefusal pictureRefusals first
     on-width b = rw (h, b)
 
     module _ (b : wrongSide (p .width) ≡ false) where
-      pub on-codel : wrongSide (p .codel) ≡ true → numbers 6 (0 ∷ 0 ∷ []) ≡ refusal p m r e w
-      unfolding refusal refusals first
+      pub on-codel : wrongSide (p .codel) ≡ true → numbers 6 (0 ∷ 0 ∷ []) ≡ pictureRefusal p m r e w
+      unfolding pictureRefusal pictureRefusals first
       on-codel k = rw (h, b, k)
 
       module _ (k : wrongSide (p .codel) ≡ false) where
-        pub on-grid : 65536 < codels p → numbers 7 (0 ∷ 0 ∷ []) ≡ refusal p m r e w
-        unfolding refusal refusals first
+        pub on-grid : 65536 < codels p → numbers 7 (0 ∷ 0 ∷ []) ≡ pictureRefusal p m r e w
+        unfolding pictureRefusal pictureRefusals first
         on-grid l = rw (h, b, k, lt-ltb 65536 (codels p) l)
 
         module _ (few : codels p ≤ 65536) where
-          pub on-bytes : (length (p .colours) ≡ p .height * p .width → ⊥) → numbers 2 (0 ∷ 0 ∷ []) ≡ refusal p m r e w
-          unfolding refusal refusals first
+          pub on-bytes : (length (p .colours) ≡ p .height * p .width → ⊥) → numbers 2 (0 ∷ 0 ∷ []) ≡ pictureRefusal p m r e w
+          unfolding pictureRefusal pictureRefusals first
           on-bytes l = rw (h, b, k, le-ltb 65536 (codels p) few, ne-eqb _ _ l)
 
           module _ (bytes : length (p .colours) ≡ p .height * p .width) where
-            pub on-colour : legalFirst (p .colours) < length (p .colours) → numbers 8 (0 ∷ legalFirst (p .colours) ∷ []) ≡ refusal p m r e w
-            unfolding refusal refusals first
+            pub on-colour : legalFirst (p .colours) < length (p .colours) → numbers 8 (0 ∷ legalFirst (p .colours) ∷ []) ≡ pictureRefusal p m r e w
+            unfolding pictureRefusal pictureRefusals first
             on-colour l = rw (h, b, k, le-ltb 65536 (codels p) few, eq-eqb _ _ bytes, lt-ltb _ _ l)
 
             module _ (legal : length (p .colours) ≤ legalFirst (p .colours)) where
-              pub on-white : getD (p .colours) 0 0 ≡ 19 → numbers 9 (0 ∷ 0 ∷ []) ≡ refusal p m r e w
-              unfolding refusal refusals first
+              pub on-white : getD (p .colours) 0 0 ≡ 19 → numbers 9 (0 ∷ 0 ∷ []) ≡ pictureRefusal p m r e w
+              unfolding pictureRefusal pictureRefusals first
               on-white l = rw (h, b, k, le-ltb 65536 (codels p) few, eq-eqb _ _ bytes, le-ltb _ _ legal, eq-eqb _ _ l)
 
               module _ (entry : getD (p .colours) 0 0 ≡ 19 → ⊥) where
-                pub on-room : short (codels p) m r e w ≡ true → numbers 4 (0 ∷ 0 ∷ []) ≡ refusal p m r e w
-                unfolding refusal refusals first
+                pub on-room : short (codels p) m r e w ≡ true → numbers 4 (0 ∷ 0 ∷ []) ≡ pictureRefusal p m r e w
+                unfolding pictureRefusal pictureRefusals first
                 on-room l = rw (h, b, k, le-ltb 65536 (codels p) few, eq-eqb _ _ bytes, le-ltb _ _ legal, ne-eqb _ _ entry, l)
 
-                pub on-none : short (codels p) m r e w ≡ false → numbers 0 (0 ∷ 0 ∷ []) ≡ refusal p m r e w
-                unfolding refusal refusals first
+                pub on-none : short (codels p) m r e w ≡ false → numbers 0 (0 ∷ 0 ∷ []) ≡ pictureRefusal p m r e w
+                unfolding pictureRefusal pictureRefusals first
                 on-none l = rw (h, b, k, le-ltb 65536 (codels p) few, eq-eqb _ _ bytes, le-ltb _ _ legal, ne-eqb _ _ entry, l)
 
 -- the answer 0 is the last one
-pub none-refused : (p : Picture) (m r e w : ℕ) (v : List ℕ) → numbers 0 v ≡ refusal p m r e w → refusal p m r e w ≡ numbers 0 (0 ∷ 0 ∷ [])
-unfolding refusal refusals
-none-refused p m r e w v h =
+pub picture-none-refused : (p : Picture) (m r e w : ℕ) (v : List ℕ) → numbers 0 v ≡ pictureRefusal p m r e w → pictureRefusal p m r e w ≡ numbers 0 (0 ∷ 0 ∷ [])
+unfolding pictureRefusal pictureRefusals
+picture-none-refused p m r e w v h =
     let a = passed _ 0 _ v _ _ h in
     let b = passed _ 5 _ v _ _ (a .1) in
     let c = passed _ 6 _ v _ _ (b .1) in
@@ -226,10 +249,14 @@ none-refused p m r e w v h =
     let i = passed _ 3 _ v _ _ (g .1) in
     sym h ∙ i .1 ∙ no-row _
 
+pub none-refused : (n : ℕ) (p : Picture) (m r e w : ℕ) (v : List ℕ) → numbers 0 v ≡ refusal n p m r e w → refusal n p m r e w ≡ numbers 0 (0 ∷ 0 ∷ [])
+none-refused n p m r e w v h = let k = past-edition n p m r e w v h in sym h ∙ k ∙ picture-none-refused p m r e w v k
+
 -- any other answer leaves the slices as they were
-pub kept-all : {p : Picture} {map rows exits work : List ℕ} (r : Built) → ((n : ℕ) → r ≡ Done n → ⊥) → numbered r ≡ refusal p (length map) (length rows) (length exits) (length work)
-    → Outcome p map rows exits work r map rows exits work
-kept-all (Done n) d e = absurd (d n refl)
+pub kept-all : {n : ℕ} {p : Picture} {map rows exits work : List ℕ} (r : Built) → ((k : ℕ) → r ≡ Done k → ⊥) → numbered r ≡ refusal n p (length map) (length rows) (length exits) (length work)
+    → Outcome n p map rows exits work r map rows exits work
+kept-all (Done k) d e = absurd (d k refl)
+kept-all UnknownEdition d e = refused 14 (0 ∷ 0 ∷ []) (sym e) refl
 kept-all Size d e = refused 0 (0 ∷ 0 ∷ []) (sym e) refl
 kept-all Codel d e = refused 5 (0 ∷ 0 ∷ []) (sym e) refl
 kept-all Grid d e = refused 6 (0 ∷ 0 ∷ []) (sym e) refl
@@ -249,9 +276,9 @@ sized-parts {p} map rows exits work k e E = rw e (record {
   work-long = length-take-le (codels p) work (E .work-in);
 })
 
-pub written : {p : Picture} {map rows exits work m t e w : List ℕ} {n : ℕ} (k : ℕ) → k ≡ codels p → Builds p m t e w n
-    → Written p map rows exits work (m ++ drop k map) (t ++ drop (rowsRoom k) rows) (e ++ drop (exitsRoom k) exits) (w ++ drop k work) n
-written {p} {map} {rows} {exits} {work} {m} {t} {e} {w} k q B =
+pub written : {edition : Edition} {p : Picture} {map rows exits work m t e w : List ℕ} {n : ℕ} (k : ℕ) → k ≡ codels p → Builds edition p m t e w n
+    → Written edition p map rows exits work (m ++ drop k map) (t ++ drop (rowsRoom k) rows) (e ++ drop (exitsRoom k) exits) (w ++ drop k work) n
+written {edition} {p} {map} {rows} {exits} {work} {m} {t} {e} {w} k q B =
     let wl : length w ≡ codels p = ap length (B .work-zero) ∙ length-replicate (codels p) 0 in
     rw q (record {
       builds = rw (take-at m (drop (codels p) map) (codels p) (B .map-long), take-at t (drop (rowsRoom (codels p)) rows) (rowsRoom (codels p)) (B .rows-long), take-at e (drop (exitsRoom (codels p)) exits) (exitsRoom (codels p)) (B .exits-long), take-at w (drop (codels p) work) (codels p) wl) B;

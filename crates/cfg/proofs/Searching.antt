@@ -11,6 +11,7 @@ use Prim.Native.Nat.{ℕ, _+_, _<_, _≤_}
 use native.Mathlib.Decide.{decLt, ℕ-discrete}
 use native.Mathlib.Omega.{arith}
 use lib.ListN.{length, getD}
+use Rattle.base.specs.declared.edition.Edition.{Edition}
 use Rattle.cfg.specs.Nodes.{Adds, Found, entry, next}
 use Rattle.cfg.specs.Table.{Marks, is, none}
 use Rattle.cfg.specs.Search.{Visit, Queue, Onward, Settled, Several, Leaving, Taken, Ready, Searched}
@@ -26,11 +27,11 @@ use Rattle.cfg.proofs.Queueing.{queue-none, visited}
 use Rattle.cfg.proofs.Trying.{settled-on}
 
 -- rows₀ and exits₀ are the slices before the first region is taken
-pub record Searching (p : Picture) (map rows₀ exits₀ work₀ : List ℕ) (head : ℕ) (rows exits work : List ℕ) (tail : ℕ) : Type 0 where
+pub record Searching (e : Edition) (p : Picture) (map rows₀ exits₀ work₀ : List ℕ) (head : ℕ) (rows exits work : List ℕ) (tail : ℕ) : Type 0 where
   pub queue : Queue p map rows work tail
   pub inside : head ≤ tail
   pub start : markOf rows 0 ≡ 1
-  pub settled : (q : ℕ) → q < head → (s : ℕ) → s < 8 → Settled p map rows (getD work q 0) s (exitAt exits (getD work q 0) s)
+  pub settled : (q : ℕ) → q < head → (s : ℕ) → s < 8 → Settled e p map rows (getD work q 0) s (exitAt exits (getD work q 0) s)
   pub same : (r s : ℕ) → s < 8 → ((q : ℕ) → q < head → getD work q 0 ≢ r) → exitAt exits r s ≡ exitAt exits₀ r s
   pub cells : (r f : ℕ) → f < 5 → f ≢ markField → fieldAt rows r f ≡ fieldAt rows₀ r f
   pub rows-length : length rows ≡ length rows₀
@@ -49,7 +50,7 @@ first-visited : {p : Picture} {map rows exits work rows₀ work₀ : List ℕ} {
 first-visited R v =
     visited (queue-first R) entry (record { codel = 0; inside = omega (arith, R .grounds .long, first-in (R .grounds .sound)); own = R .first }) (first-low R) v
 
-pub search-start : {p : Picture} {map rows exits work rows₀ work₀ : List ℕ} {tail : ℕ} → Ready p map rows exits work → Visit 0 rows work 0 rows₀ work₀ tail → Searching p map rows₀ exits work₀ 0 rows₀ exits work₀ tail
+pub search-start : {e : Edition} {p : Picture} {map rows exits work rows₀ work₀ : List ℕ} {tail : ℕ} → Ready p map rows exits work → Visit 0 rows work 0 rows₀ work₀ tail → Searching e p map rows₀ exits work₀ 0 rows₀ exits work₀ tail
 search-start R v =
     let x = first-visited R v in
     record {
@@ -64,8 +65,8 @@ search-start R v =
       work-length = refl;
     }
 
-module _ {p : Picture} {map rowsᵉ exitsᵉ workᵉ rows₀ work₀ : List ℕ} {tail₀ : ℕ} (R : Ready p map rowsᵉ exitsᵉ workᵉ) (v : Visit 0 rowsᵉ workᵉ 0 rows₀ work₀ tail₀)
-    {head : ℕ} {rows exits work : List ℕ} {tail : ℕ} (S : Searching p map rows₀ exitsᵉ work₀ head rows exits work tail) where
+module _ {e : Edition} {p : Picture} {map rowsᵉ exitsᵉ workᵉ rows₀ work₀ : List ℕ} {tail₀ : ℕ} (R : Ready p map rowsᵉ exitsᵉ workᵉ) (v : Visit 0 rowsᵉ workᵉ 0 rows₀ work₀ tail₀)
+    {head : ℕ} {rows exits work : List ℕ} {tail : ℕ} (S : Searching e p map rows₀ exitsᵉ work₀ head rows exits work tail) where
   low : (q : ℕ) → q < tail → getD work q 0 < codels p
   low q h =
       let o = S .queue .waits q h .occurs in
@@ -94,8 +95,8 @@ module _ {p : Picture} {map rowsᵉ exitsᵉ workᵉ rows₀ work₀ : List ℕ}
       few = omega (arith, low head more, R .grounds .sound .few);
     }
 
-    module _ {rows′ exits′ work′ : List ℕ} {tail′ : ℕ} (T : Several p map (getD work head 0) 8 rows exits work tail rows′ exits′ work′ tail′) where
-      settled : (q : ℕ) → q < head + 1 → (s : ℕ) → s < 8 → Settled p map rows′ (getD work′ q 0) s (exitAt exits′ (getD work′ q 0) s)
+    module _ {rows′ exits′ work′ : List ℕ} {tail′ : ℕ} (T : Several e p map (getD work head 0) 8 rows exits work tail rows′ exits′ work′ tail′) where
+      settled : (q : ℕ) → q < head + 1 → (s : ℕ) → s < 8 → Settled e p map rows′ (getD work′ q 0) s (exitAt exits′ (getD work′ q 0) s)
       settled q h s i =
           by-cases (decLt q head)
           (λ b.
@@ -109,7 +110,7 @@ module _ {p : Picture} {map rowsᵉ exitsᵉ workᵉ rows₀ work₀ : List ℕ}
           T .same r s i (λ e. absurd (h head (omega arith) (T .onward .old head more ∙ sym e)))
           ∙ S .same r s i (λ q l e. h q (omega arith) (T .onward .old q (omega arith) ∙ e))
 
-      pub search-turn : Searching p map rows₀ exitsᵉ work₀ (head + 1) rows′ exits′ work′ tail′
+      pub search-turn : Searching e p map rows₀ exitsᵉ work₀ (head + 1) rows′ exits′ work′ tail′
       search-turn = record {
         queue = T .onward .queue;
         inside = omega (arith, T .onward .on);
@@ -125,7 +126,7 @@ module _ {p : Picture} {map rowsᵉ exitsᵉ workᵉ rows₀ work₀ : List ℕ}
   -- the queue is empty
   module _ (empty : tail ≤ head) where
     -- a marked region's exits are settled
-    done : (r : ℕ) → markOf rows r ≡ 1 → (s : ℕ) → s < 8 → Settled p map rows r s (exitAt exits r s)
+    done : (r : ℕ) → markOf rows r ≡ 1 → (s : ℕ) → s < 8 → Settled e p map rows r s (exitAt exits r s)
     done r m s h =
         let (q, i, e) = S .queue .seen r m in
         rw e at (S .settled q (omega arith) s h)
@@ -152,7 +153,7 @@ module _ {p : Picture} {map rowsᵉ exitsᵉ workᵉ rows₀ work₀ : List ℕ}
         let z : markOf rows r ≡ 0 = omega (arith, S .queue .bit r) in
         subst (Marks (Found p map r)) (sym z) (none (λ f. d (complete f))))
 
-    pub search-end : Searched p map rowsᵉ exitsᵉ rows exits
+    pub search-end : Searched e p map rowsᵉ exitsᵉ rows exits
     search-end = record {
       marks = marks;
       settled = λ r f s h. done r (complete f) s h .is;

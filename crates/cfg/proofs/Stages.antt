@@ -16,6 +16,7 @@ use lib.ListN.{length, getD, replicate}
 use lib.Seq.{drop-length}
 use Rattle.base.specs.Lent.{filled}
 use Rattle.base.proofs.Over.{filled-zero}
+use Rattle.base.specs.declared.edition.Edition.{Edition}
 use Rattle.flow.specs.Pointer.{ofNumber}
 use Rattle.cfg.specs.Nodes.{Adds, beside, astray, over, landing, Found, entry, next, Node}
 use Rattle.cfg.specs.Table.{Marks, is, none, Exit, no-node, Builds}
@@ -105,8 +106,8 @@ module _ {p : Picture} {map : List ℕ} {n : ℕ} {rows : List ℕ} (B : Begun p
       let o = found-occurs f in
       omega (arith, B .regions .below (o .codel) (omega (arith, o .inside, B .map-long)), o .own)
 
-  module _ {exits rows′ exits′ rows″ exits″ : List ℕ} (K : AllKept map (replicate (exitsRoom (codels p)) 0) exits (rowsOf p) (colsOf p) 8)
-      (S : Searched p map rows exits rows′ exits′) (C : Cleared n rows′ exits′ rows″ exits″) where
+  module _ {e : Edition} {exits rows′ exits′ rows″ exits″ : List ℕ} (K : AllKept map (replicate (exitsRoom (codels p)) 0) exits (rowsOf p) (colsOf p) 8)
+      (S : Searched e p map rows exits rows′ exits′) (C : Cleared n rows′ exits′ rows″ exits″) where
     -- the fields of a row stay, but for its mark
     field : (r f : ℕ) → f < 5 → f ≢ markField → fieldAt rows″ r f ≡ fieldAt rows r f
     field r f h d = C .rows-same r f h (λ _. d) ∙ S .cells r f h d
@@ -166,11 +167,11 @@ module _ {p : Picture} {map : List ℕ} {n : ℕ} {rows : List ℕ} (B : Begun p
     node-mark r h (stays e m x) = let d = is-node r h e in subst (Marks (Node p map r)) (sym (m ∙ d .1)) (is (d .0))
     node-mark r h (goes e m x) = subst (Marks (Node p map r)) (sym m) (none (never-node r h e))
 
-    exit-at : (r s : ℕ) → r < n → s < 8 → Kept r rows′ exits′ rows″ exits″ → Exit p map r (ofNumber s) (exitAt exits″ r s)
-    exit-at r s h i (stays e m x) =
-        let d = is-node r h e in
-        subst (Exit p map r (ofNumber s)) (sym (x s i)) (number-exit (cols-pos (B .sound)) (B .map-long) i (d .0) (S .settled r (d .0 .found) s i))
-    exit-at r s h i (goes e m x) = subst (Exit p map r (ofNumber s)) (sym (x s i)) (no-node (never-node r h e))
+    exit-at : (r s : ℕ) → r < n → s < 8 → Kept r rows′ exits′ rows″ exits″ → Exit e p map r (ofNumber s) (exitAt exits″ r s)
+    exit-at r s h i (stays t m x) =
+        let d = is-node r h t in
+        subst (Exit e p map r (ofNumber s)) (sym (x s i)) (number-exit (cols-pos (B .sound)) (B .map-long) i (d .0) (S .settled r (d .0 .found) s i))
+    exit-at r s h i (goes t m x) = subst (Exit e p map r (ofNumber s)) (sym (x s i)) (no-node (never-node r h t))
 
     row-at : (r : ℕ) → r < n → Row (gridOf p) (p .codel) (codels p) map r (rowAt rows″ r)
     row-at r h =
@@ -213,7 +214,7 @@ module _ {p : Picture} {map : List ℕ} {n : ℕ} {rows : List ℕ} (B : Begun p
           ∙ K .others r s k (λ i j l e. omega (arith, B .regions .below j (omega (arith, B .map-long)), e))
           ∙ zero-at (exitsRoom (codels p)) (exitCell r s)
 
-    pub builds : {work : List ℕ} → length rows″ ≡ rowsRoom (codels p) → length exits″ ≡ exitsRoom (codels p) → work ≡ replicate (codels p) 0 → Builds p map rows″ exits″ work n
+    pub builds : {work : List ℕ} → length rows″ ≡ rowsRoom (codels p) → length exits″ ≡ exitsRoom (codels p) → work ≡ replicate (codels p) 0 → Builds e p map rows″ exits″ work n
     builds rl el w = record {
       map-long = B .map-long;
       rows-long = rl;

@@ -7,6 +7,8 @@ use mathlib.Core.List.{List}
 use Prim.Native.Nat.{ℕ, zero, suc, _+_, _*_, _<_, _≤_}
 use lib.Dec.{eqb}
 use lib.ListN.{length, getD, set}
+use Rattle.base.specs.declared.edition.Edition.{Edition}
+use Rattle.base.specs.Edition.{byEdition}
 use Rattle.flow.specs.Pointer.{Valid, stateNumber, ofNumber}
 use Rattle.flow.specs.declared.PointerState.{PointerState}
 use Rattle.cfg.specs.Nodes.{Adds, Found}
@@ -23,7 +25,7 @@ use Rattle.exit.specs.declared.attempt.Way.{Way}
 use Rattle.exit.specs.declared.attempt.Way.the-variants.{Closed, Step, Astray, Glide}
 use Rattle.exit.specs.Leaving.{LeavesBy}
 use Rattle.exit.specs.Opens.{regionAt, Tried}
-use Rattle.table.specs.ExitNumber.{exitNumber}
+use Rattle.table.specs.ExitNumber.{exitNumber, lostSlide}
 
 -- how many of the first n regions have no mark
 unfoldable pub bare : ℕ → List ℕ → ℕ
@@ -95,35 +97,39 @@ pub record Onward (p : Picture) (map rows work : List ℕ) (tail : ℕ) (rows′
   pub rows-length : length rows′ ≡ length rows
   pub work-length : length work′ ≡ length work
 
--- what the code makes of a way, from a region of the colour `from` in state s: the number of its exit, 0 where it is not open
-unfoldable pub wayNumber : Picture → List ℕ → ℕ → ℕ → Way → ℕ
-wayNumber p map from s Closed = 0
-wayNumber p map from s (Astray a b) = 0
-wayNumber p map from s (Step a b) = exitNumber (regionAt p map a b) s (decodeOf from (colourAt p a b))
-wayNumber p map from s (Glide a b c d t) = exitNumber (regionAt p map c d) (stateNumber t) 0
+-- the exit of a lost slide: in edition 1 there is none (rule 16.5)
+abbrev pub lostExit : Edition → ℕ
+lostExit e = byEdition e 0 lostSlide
+
+-- what the code makes of a way, from a region of the colour `from` in state s: the number of its exit, 0 where there is none
+unfoldable pub wayNumber : Edition → Picture → List ℕ → ℕ → ℕ → Way → ℕ
+wayNumber e p map from s Closed = 0
+wayNumber e p map from s (Astray a b) = lostExit e
+wayNumber e p map from s (Step a b) = exitNumber (regionAt p map a b) s (decodeOf from (colourAt p a b))
+wayNumber e p map from s (Glide a b c d t) = exitNumber (regionAt p map c d) (stateNumber t) 0
 
 -- x is the number of region r's attempt in state s
-pub record Number (p : Picture) (map : List ℕ) (r s x : ℕ) : Type 0 where
+pub record Number (e : Edition) (p : Picture) (map : List ℕ) (r s x : ℕ) : Type 0 where
   pub way : Way
   pub tried : Tried p map r (ofNumber s) way
-  pub number : x ≡ wayNumber p map (codelColour p (tried .codel)) s way
+  pub number : x ≡ wayNumber e p map (codelColour p (tried .codel)) s way
 
 -- and what the attempt adds is marked
-pub record Settled (p : Picture) (map rows : List ℕ) (r s x : ℕ) : Type 0 where
-  pub is : Number p map r s x
+pub record Settled (e : Edition) (p : Picture) (map rows : List ℕ) (r s x : ℕ) : Type 0 where
+  pub is : Number e p map r s x
   pub marked : (q : ℕ) → Adds p map (is .way) q → markOf rows q ≡ 1
 
 -- state s of region r is settled
-pub record Tries (p : Picture) (map : List ℕ) (r s : ℕ) (rows exits work : List ℕ) (tail : ℕ) (rows′ exits′ work′ : List ℕ) (tail′ : ℕ) : Type 0 where
+pub record Tries (e : Edition) (p : Picture) (map : List ℕ) (r s : ℕ) (rows exits work : List ℕ) (tail : ℕ) (rows′ exits′ work′ : List ℕ) (tail′ : ℕ) : Type 0 where
   pub onward : Onward p map rows work tail rows′ work′ tail′
   pub value : ℕ
   pub stored : exits′ ≡ set exits (exitCell r s) value
-  pub settled : Settled p map rows′ r s value
+  pub settled : Settled e p map rows′ r s value
 
 -- the states below k of region r are settled, and no other exit changes
-pub record Several (p : Picture) (map : List ℕ) (r k : ℕ) (rows exits work : List ℕ) (tail : ℕ) (rows′ exits′ work′ : List ℕ) (tail′ : ℕ) : Type 0 where
+pub record Several (e : Edition) (p : Picture) (map : List ℕ) (r k : ℕ) (rows exits work : List ℕ) (tail : ℕ) (rows′ exits′ work′ : List ℕ) (tail′ : ℕ) : Type 0 where
   pub onward : Onward p map rows work tail rows′ work′ tail′
-  pub settled : (s : ℕ) → s < k → Settled p map rows′ r s (exitAt exits′ r s)
+  pub settled : (s : ℕ) → s < k → Settled e p map rows′ r s (exitAt exits′ r s)
   pub same : (q s : ℕ) → s < 8 → (q ≡ r → k ≤ s) → exitAt exits′ q s ≡ exitAt exits q s
   pub exits-length : length exits′ ≡ length exits
 
@@ -151,9 +157,9 @@ pub record Ready (p : Picture) (map rows exits work : List ℕ) : Type 0 where
   pub leaving : (j : ℕ) → j < length map → Leaving p map exits (getD map j 0)
 
 -- what the search leaves: the found regions are marked and their exits are settled
-pub record Searched (p : Picture) (map rows exits rows′ exits′ : List ℕ) : Type 0 where
+pub record Searched (e : Edition) (p : Picture) (map rows exits rows′ exits′ : List ℕ) : Type 0 where
   pub marks : (r : ℕ) → Marks (Found p map r) (markOf rows′ r)
-  pub settled : (r : ℕ) → Found p map r → (s : ℕ) → s < 8 → Number p map r s (exitAt exits′ r s)
+  pub settled : (r : ℕ) → Found p map r → (s : ℕ) → s < 8 → Number e p map r s (exitAt exits′ r s)
   pub same : (r s : ℕ) → s < 8 → (Found p map r → ⊥) → exitAt exits′ r s ≡ exitAt exits r s
   pub cells : (r f : ℕ) → f < 5 → f ≢ markField → fieldAt rows′ r f ≡ fieldAt rows r f
 

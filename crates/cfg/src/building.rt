@@ -1,5 +1,8 @@
 // Building: its tests, and then the table.
 use crate::filling::fill_table;
+use base::edition::Edition;
+use base::edition::edition_of;
+use base::edition::unknown_edition;
 use base::limits::wrong_side;
 use colour::palette::WHITE;
 use picture::shape::Shape;
@@ -15,6 +18,7 @@ ghost use Rattle.cfg.specs.Build.{numbered, legalFirst, short, refusal, 
 // What a call answers: done, with the count of regions, or a refusal.
 pub enum Built {
     Done { regions: usize },
+    UnknownEdition,
     Size,
     Codel,
     Grid,
@@ -65,19 +69,23 @@ pub fn codel_count(height: usize, width: usize, codel: usize) -> usize
     s.rows * s.cols
 }
 
-// Building's tests in their order (rule 12.4); the lent slices are given by their lengths. Nothing is written.
+// Building's tests in their order (rules 12.4, 16.1); the lent slices are given by their lengths. Nothing is written.
 fn check(
     colours: &[u8],
     height: usize,
     width: usize,
     codel: usize,
+    edition: u32,
     map: usize,
     rows: usize,
     exits: usize,
     work: usize,
 ) -> Built
-    ensures { λ r. ⌜ numbered r ≡ refusal (picture height width codel (now (colours .entry))) map rows exits work ⌝ }
+    ensures { λ r. ⌜ numbered r ≡ refusal edition (picture height width codel (now (colours .entry))) map rows exits work ⌝ }
 {
+    if unknown_edition(edition) {
+        return Built::UnknownEdition;
+    }
     if wrong_side(height) {
         return Built::Size;
     }
@@ -112,6 +120,7 @@ fn check(
 fn write_table(
     colours: &[u8],
     s: Shape,
+    edition: Edition,
     map: &mut [u32],
     rows: &mut [u32],
     exits: &mut [u32],
@@ -119,7 +128,7 @@ fn write_table(
 ) -> usize
     requires { ⌜ Enough (pictureOf (now colours) s) (length (now map)) (length (now rows)) (length (now exits)) (length (now work)) ⌝ }
     requires { ⌜ Frames (now colours) s ⌝ }
-    ensures { λ n. ⌜ Written (pictureOf (now (colours .entry)) s) (now (map .entry)) (now (rows .entry)) (now (exits .entry)) (now (work .entry)) (now (map .exit)) (now (rows .exit)) (now (exits .exit)) (now (work .exit)) n ⌝ }
+    ensures { λ n. ⌜ Written edition (pictureOf (now (colours .entry)) s) (now (map .entry)) (now (rows .entry)) (now (exits .entry)) (now (work .entry)) (now (map .exit)) (now (rows .exit)) (now (exits .exit)) (now (work .exit)) n ⌝ }
 {
     let count = s.rows * s.cols;
     let of_rows = rows_room(count);
@@ -127,6 +136,7 @@ fn write_table(
     fill_table(
         colours,
         s,
+        edition,
         &mut map[..count],
         &mut rows[..of_rows],
         &mut exits[..of_exits],
@@ -134,25 +144,27 @@ fn write_table(
     )
 }
 
-// The table of a picture of G codels: the map, G cells; the region rows, 5G; the exits, 8G; the work slice, G cells, left
-// 0. Where the call is refused, no slice is changed.
+// The table of a picture of G codels in the edition of a number: the map, G cells; the region rows, 5G; the exits, 8G; the
+// work slice, G cells, left 0. Where the call is refused, no slice is changed.
 pub fn build(
     colours: &[u8],
     height: usize,
     width: usize,
     codel: usize,
+    edition: u32,
     map: &mut [u32],
     rows: &mut [u32],
     exits: &mut [u32],
     work: &mut [u32],
 ) -> Built
-    ensures { λ r. ⌜ Outcome (picture height width codel (now (colours .entry))) (now (map .entry)) (now (rows .entry)) (now (exits .entry)) (now (work .entry)) r (now (map .exit)) (now (rows .exit)) (now (exits .exit)) (now (work .exit)) ⌝ }
+    ensures { λ r. ⌜ Outcome edition (picture height width codel (now (colours .entry))) (now (map .entry)) (now (rows .entry)) (now (exits .entry)) (now (work .entry)) r (now (map .exit)) (now (rows .exit)) (now (exits .exit)) (now (work .exit)) ⌝ }
 {
     let answer = check(
         colours,
         height,
         width,
         codel,
+        edition,
         map.len(),
         rows.len(),
         exits.len(),
@@ -160,7 +172,8 @@ pub fn build(
     );
     if let Built::Done { regions: _ } = answer {
         let s = shape_of(height, width, codel);
-        let n = write_table(colours, s, map, rows, exits, work);
+        let rules = edition_of(edition);
+        let n = write_table(colours, s, rules, map, rows, exits, work);
         return Built::Done { regions: n };
     }
     answer

@@ -1,6 +1,7 @@
 // The whole table, in slices of exactly the room that it needs.
 use crate::nodes::keep_nodes;
 use crate::search::search;
+use base::edition::Edition;
 use base::fill::fill_u32;
 use exit::leave::leave_by;
 use picture::shape::Shape;
@@ -30,6 +31,7 @@ fn begin(
 pub fn fill_table(
     colours: &[u8],
     s: Shape,
+    edition: Edition,
     map: &mut [u32],
     rows: &mut [u32],
     exits: &mut [u32],
@@ -37,11 +39,11 @@ pub fn fill_table(
 ) -> usize
     requires { ⌜ Sized (pictureOf (now colours) s) (now map) (now rows) (now exits) (now work) ⌝ }
     requires { ⌜ Frames (now colours) s ⌝ }
-    ensures { λ n. ⌜ Builds (pictureOf (now (colours .entry)) s) (now (map .exit)) (now (rows .exit)) (now (exits .exit)) (now (work .exit)) n ⌝ }
+    ensures { λ n. ⌜ Builds edition (pictureOf (now (colours .entry)) s) (now (map .exit)) (now (rows .exit)) (now (exits .exit)) (now (work .exit)) n ⌝ }
 {
     let n = begin(colours, s, map, rows, exits, work);
     leave_by(map, exits, s.rows, s.cols);
-    search(colours, s, map, rows, exits, work);
+    search(colours, s, edition, map, rows, exits, work);
     keep_nodes(n, rows, exits);
     fill_u32(work, 0, work.len(), 0);
     n

@@ -9,12 +9,14 @@ ghost use Rattle.table.specs.ExitNumber.{exitNumber};
 ghost use Rattle.table.specs.Layout.{exitsRoom, exitAt};
 ghost use Rattle.exit.specs.Leaving.{LeavesBy};
 ghost use Rattle.cfg.specs.Nodes.{Found};
-ghost use Rattle.cfg.specs.Search.{wayNumber, Room, Visit, Queued, InGrid, Grounds, Queue, Tries, Several, Taken, Ready, Searched};
+ghost use Rattle.cfg.specs.Search.{lostExit, wayNumber, Room, Visit, Queued, InGrid, Grounds, Queue, Tries, Several, Taken, Ready, Searched};
+use base::edition::Edition;
 use exit::attempt::Way;
 use exit::attempt::attempt_from;
 use flow::PointerState;
 use picture::shape::Shape;
 use picture::shape::colour_at;
+use table::LOST_SLIDE;
 use table::MARK;
 use table::exit_cell;
 use table::exit_number;
@@ -101,18 +103,36 @@ fn exit_to(map: &[u32], at: usize, state: u8, instruction: u8) -> u32
     exit_number(map[at], state, instruction)
 }
 
+// The exit of a lost slide: none in edition 1, and the run's end in edition 2 (rules 16.5, 16.6).
+fn lost_exit(edition: Edition) -> u32
+    ensures { λ r. ⌜ r ≡ lostExit edition ⌝ }
+{
+    match edition {
+        Edition::Rust => 0,
+        Edition::Page => LOST_SLIDE,
+    }
+}
+
 // The exit number of a way from a region of the colour from, in a state.
-fn way_number(colours: &[u8], s: Shape, map: &[u32], from: u8, state: u8, way: Way) -> u32
+fn way_number(
+    colours: &[u8],
+    s: Shape,
+    edition: Edition,
+    map: &[u32],
+    from: u8,
+    state: u8,
+    way: Way,
+) -> u32
     requires { ⌜ Grounds (pictureOf (now colours) s) (now map) ⌝ }
     requires { ⌜ InGrid (pictureOf (now colours) s) way ⌝ }
     requires { ⌜ state < 8 ⌝ }
     requires { ⌜ Frames (now colours) s ⌝ }
-    ensures { λ r. ⌜ r ≡ wayNumber (pictureOf (now (colours .entry)) s) (now (map .entry)) from state way ⌝ }
+    ensures { λ r. ⌜ r ≡ wayNumber edition (pictureOf (now (colours .entry)) s) (now (map .entry)) from state way ⌝ }
 {
     let cols = s.cols;
     match way {
         Way::Closed => 0,
-        Way::Astray { row, col } => 0,
+        Way::Astray { row, col } => lost_exit(edition),
         Way::Step { row, col } => {
             let to = colour_at(colours, s, row, col);
             let instruction = colour::decode::decode(from, to);
@@ -136,6 +156,7 @@ fn way_number(colours: &[u8], s: Shape, map: &[u32], from: u8, state: u8, way: W
 fn try_state(
     colours: &[u8],
     s: Shape,
+    edition: Edition,
     map: &[u32],
     r: usize,
     state: u8,
@@ -153,7 +174,7 @@ fn try_state(
     requires { ⌜ r < 65536 ⌝ }
     requires { ⌜ state < 8 ⌝ }
     requires { ⌜ Frames (now colours) s ⌝ }
-    ensures { λ t. ⌜ Tries (pictureOf (now (colours .entry)) s) (now (map .entry)) r state (now (rows .entry)) (now (exits .entry)) (now (work .entry)) tail (now (rows .exit)) (now (exits .exit)) (now (work .exit)) t ⌝ }
+    ensures { λ t. ⌜ Tries edition (pictureOf (now (colours .entry)) s) (now (map .entry)) r state (now (rows .entry)) (now (exits .entry)) (now (work .entry)) tail (now (rows .exit)) (now (exits .exit)) (now (work .exit)) t ⌝ }
 {
     let cell = exit_cell(r, state as usize);
     let cols = s.cols;
@@ -163,7 +184,7 @@ fn try_state(
     let from = colour_at(colours, s, row, col);
     let p = PointerState::of_number(state);
     let way = attempt_from(colours, s, row, col, p);
-    exits[cell] = way_number(colours, s, map, from, state, way);
+    exits[cell] = way_number(colours, s, edition, map, from, state, way);
     queue_way(colours, s, map, way, rows, work, tail)
 }
 
@@ -171,6 +192,7 @@ fn try_state(
 fn try_states(
     colours: &[u8],
     s: Shape,
+    edition: Edition,
     map: &[u32],
     r: usize,
     rows: &mut [u32],
@@ -181,12 +203,12 @@ fn try_states(
     requires { ⌜ Taken (pictureOf (now colours) s) (now map) (now exits) (now work) r ⌝ }
     requires { ⌜ Queue (pictureOf (now colours) s) (now map) (now rows) (now work) tail ⌝ }
     requires { ⌜ Frames (now colours) s ⌝ }
-    ensures { λ t. ⌜ Several (pictureOf (now (colours .entry)) s) (now (map .entry)) r 8 (now (rows .entry)) (now (exits .entry)) (now (work .entry)) tail (now (rows .exit)) (now (exits .exit)) (now (work .exit)) t ⌝ }
+    ensures { λ t. ⌜ Several edition (pictureOf (now (colours .entry)) s) (now (map .entry)) r 8 (now (rows .entry)) (now (exits .entry)) (now (work .entry)) tail (now (rows .exit)) (now (exits .exit)) (now (work .exit)) t ⌝ }
 {
     let mut end = tail;
     let mut state: u8 = 0;
     while state < 8 {
-        end = try_state(colours, s, map, r, state, rows, exits, work, end);
+        end = try_state(colours, s, edition, map, r, state, rows, exits, work, end);
         state += 1;
     }
     end
@@ -196,6 +218,7 @@ fn try_states(
 pub fn search(
     colours: &[u8],
     s: Shape,
+    edition: Edition,
     map: &[u32],
     rows: &mut [u32],
     exits: &mut [u32],
@@ -203,13 +226,13 @@ pub fn search(
 )
     requires { ⌜ Ready (pictureOf (now colours) s) (now map) (now rows) (now exits) (now work) ⌝ }
     requires { ⌜ Frames (now colours) s ⌝ }
-    ensures { λ _. ⌜ Searched (pictureOf (now (colours .entry)) s) (now (map .entry)) (now (rows .entry)) (now (exits .entry)) (now (rows .exit)) (now (exits .exit)) ⌝ }
+    ensures { λ _. ⌜ Searched edition (pictureOf (now (colours .entry)) s) (now (map .entry)) (now (rows .entry)) (now (exits .entry)) (now (rows .exit)) (now (exits .exit)) ⌝ }
 {
     let mut tail = visit(0, rows, work, 0);
     let mut head = 0;
     while head < tail {
         let r = wide(work[head]);
-        tail = try_states(colours, s, map, r, rows, exits, work, tail);
+        tail = try_states(colours, s, edition, map, r, rows, exits, work, tail);
         head += 1;
     }
 }

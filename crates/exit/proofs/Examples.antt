@@ -35,7 +35,7 @@ unfolding seenAs seen lookOf aheadOf turnsOf eighthTurn
 straight-on = (glide refl (record { trail = _; slides = land refl refl }), glide refl (record { trail = _; slides = land refl refl }))
 
 -- red, white, white over black, white, white: no attempt is open
-abbrev round : Picture
+abbrev pub round : Picture
 round = picture 2 3 1 (6 ∷ 19 ∷ 19 ∷ 18 ∷ 19 ∷ 19 ∷ [])
 
 -- twice round the white square are eight turns

@@ -1,7 +1,10 @@
 -- What an attempt of a region comes to is settled, and where it is open it leads to a coloured codel.
 --     same-codel, same-way    one codel to leave by, and one way
 --     opens-only              one region, one state and one instruction
---     closed-shut, astray-shut
+--     open-unstuck            an open attempt is no lost slide
+--     rust-unstuck            in edition 1 nothing is stuck
+--     closed-shut             what is shut ahead is passed over in both editions
+--     astray-shut             a lost slide is passed over in edition 1
 --     reached                 the codel that an open attempt leads to
 -- Assumes nothing.
 use mathlib.Core.Path.{_≡_, refl, sym, ap, ap₂, subst}
@@ -10,6 +13,8 @@ use Prim.Native.Nat.{ℕ, _/_, _%_, _<_, _≤_}
 use native.Mathlib.Omega.{arith}
 use lib.Dec.{lit≤}
 use lib.ListN.{length}
+use Rattle.base.specs.declared.edition.Edition.{Edition}
+use Rattle.base.specs.declared.edition.Edition.the-variants.{Rust}
 use Rattle.base.proofs.Clash.{clash}
 use Rattle.flow.specs.Pointer.{Valid}
 use Rattle.flow.specs.declared.PointerState.{PointerState}
@@ -20,10 +25,13 @@ use Rattle.picture.proofs.Codels.{inside-of}
 use Rattle.exit.specs.declared.attempt.Way.{Way}
 use Rattle.exit.specs.declared.attempt.Way.the-variants.{Closed, Step, Astray, Glide}
 use Rattle.exit.specs.Attempt.{Attempt, step, glide}
-use Rattle.exit.specs.Opens.{regionAt, Tried, Opens, beside, across, Shut}
+use Rattle.exit.specs.Opens.{regionAt, Tried, Opens, beside, across, Stuck, lost, Shut}
 use Rattle.exit.proofs.Only.{leaving-only, attempt-only}
 use Rattle.exit.proofs.SlideLaws.{white-inside, coloured-inside, coloured-colour}
 use Rattle.exit.proofs.SlideEnds.{Landing, landing}
+
+pub rust-unstuck : {p : Picture} {map : List ℕ} {r : ℕ} {q : PointerState} {e : Edition} → e ≡ Rust → Stuck p map r q e → ⊥
+rust-unstuck x (lost t) = clash (cc)
 
 module _ {p : Picture} {map : List ℕ} {r : ℕ} {q : PointerState} (h : 0 < colsOf p) (l : length map ≡ codels p) (v : Valid q) where
   pub same-codel : {w w′ : Way} (a : Tried p map r q w) (b : Tried p map r q w′) → a .codel ≡ b .codel
@@ -46,19 +54,22 @@ module _ {p : Picture} {map : List ℕ} {r : ℕ} {q : PointerState} (h : 0 < co
       let ed : d ≡ d′ = cc in
       (ap₂ (regionAt p map) ec ed, cc, refl)
 
-  -- a way that is neither a step nor a slide that lands is not open
-  unopened : {w : Way} → Tried p map r q w → ((a b : ℕ) → w ≡ Step a b → ⊥) → ((a b c d : ℕ) (u : PointerState) → w ≡ Glide a b c d u → ⊥) → Shut p map r q
-  unopened {w} t f g = record { never = λ target u i o. go o }
+  pub open-unstuck : {target i : ℕ} {u : PointerState} {e : Edition} → Opens p map r q target u i → Stuck p map r q e → ⊥
+  open-unstuck (beside x) (lost y) = let w = same-way x y in clash (cc)
+  open-unstuck (across x) (lost y) = let w = same-way x y in clash (cc)
+
+  pub closed-shut : {e : Edition} → Tried p map r q Closed → Shut e p map r q
+  closed-shut t = record { never = λ target u i o. unopened o; unstuck = λ s. unlost s }
     where
-      go : {target i : ℕ} {u : PointerState} → Opens p map r q target u i → ⊥
-      go (beside s) = f _ _ (same-way t s)
-      go (across s) = g _ _ _ _ _ (same-way t s)
+      unopened : {target i : ℕ} {u : PointerState} → Opens p map r q target u i → ⊥
+      unopened (beside x) = let w = same-way t x in clash (cc)
+      unopened (across x) = let w = same-way t x in clash (cc)
 
-  pub closed-shut : Tried p map r q Closed → Shut p map r q
-  closed-shut t = unopened t (λ a b e. clash (cc)) (λ a b c d u e. clash (cc))
+      unlost : {e : Edition} → Stuck p map r q e → ⊥
+      unlost (lost x) = let w = same-way t x in clash (cc)
 
-  pub astray-shut : {a b : ℕ} → Tried p map r q (Astray a b) → Shut p map r q
-  astray-shut t = unopened t (λ a b e. clash (cc)) (λ a b c d u e. clash (cc))
+  pub astray-shut : {a b : ℕ} → Tried p map r q (Astray a b) → Shut Rust p map r q
+  astray-shut t = record { never = λ target u i o. open-unstuck o (lost t); unstuck = rust-unstuck refl }
 
 -- where a step and a slide come to
 stepped : {p : Picture} {r c a b : ℕ} {q : PointerState} → Inside p r c → Valid q → Attempt p r c q (Step a b) → Landing p a b q

@@ -1,14 +1,16 @@
--- What an attempt of a region comes to, by walking codels (rules 4.2 to 4.4, 5.1 to 5.4). A region is named by its number in
+-- What an attempt of a region comes to, by walking codels (rules 4.2 to 4.4, 5.1 to 5.4, 16.6). A region is named by its number in
 -- `map`, the numbering of the picture's regions by first codels, which the picture determines. Assumes nothing.
 use mathlib.Core.List.{List}
 use Prim.Native.Nat.{ℕ, _/_, _%_}
 use lib.ListN.{getD}
+use Rattle.base.specs.declared.edition.Edition.{Edition}
+use Rattle.base.specs.declared.edition.Edition.the-variants.{Page}
 use Rattle.flow.specs.declared.PointerState.{PointerState}
 use Rattle.colour.specs.Instruction.{none}
 use Rattle.colour.specs.Decode.{decodeOf}
 use Rattle.picture.specs.Picture.{Picture, rowsOf, colsOf, colourAt, indexOf, codelColour}
 use Rattle.exit.specs.declared.attempt.Way.{Way}
-use Rattle.exit.specs.declared.attempt.Way.the-variants.{Step, Glide}
+use Rattle.exit.specs.declared.attempt.Way.the-variants.{Step, Astray, Glide}
 use Rattle.exit.specs.Attempt.{Attempt}
 use Rattle.exit.specs.Leaving.{LeavesBy}
 
@@ -31,6 +33,12 @@ pub data Opens (p : Picture) (map : List ℕ) (r : ℕ) (q : PointerState) : ℕ
   across : {a b c d : ℕ} {u : PointerState} → Tried p map r q (Glide a b c d u)
       → Opens p map r q (regionAt p map c d) u none
 
--- the attempt is not open
-pub record Shut (p : Picture) (map : List ℕ) (r : ℕ) (q : PointerState) : Type 0 where
+-- the attempt is a lost slide at which a run of edition 2 ends (rule 16.6); in edition 1 a lost slide is merely not open
+-- (rule 5.4), so that nothing is stuck
+pub data Stuck (p : Picture) (map : List ℕ) (r : ℕ) (q : PointerState) : Edition → Type 0 where
+  lost : {a b : ℕ} → Tried p map r q (Astray a b) → Stuck p map r q Page
+
+-- the attempt is passed over: it is not open, and in edition 2 not a lost slide either
+pub record Shut (e : Edition) (p : Picture) (map : List ℕ) (r : ℕ) (q : PointerState) : Type 0 where
   pub never : (target : ℕ) (u : PointerState) (i : ℕ) → Opens p map r q target u i → ⊥
+  pub unstuck : Stuck p map r q e → ⊥

@@ -10,10 +10,10 @@ use lib.Dec.{eqb, ltb, leb}
 use lib.ListN.{length, getD}
 use Rattle.base.specs.declared.edition.Edition.{Edition}
 use Rattle.base.proofs.Tests.{neither, and-both, by-size}
-use Rattle.interpreter.specs.Table.{any, every, wrongCount, tooShort, wrongMark, largestIn, wrongExit, wrongExits, wrongTable, validOf, Good}
+use Rattle.interpreter.specs.Table.{any, every, wrongCount, tooShort, wrongMark, wrongExit, wrongExits, wrongTable, validOf, Good}
 use Rattle.table.specs.Layout.{exitCell, exitAt, rowsRoom, exitsRoom}
 use Rattle.table.proofs.Cells.{exit-in, exit-below, each-exit-cell}
-use Rattle.table.specs.ExitNumber.{targetOf}
+use Rattle.table.specs.ExitNumber.{targetOf, largestIn}
 
 both-true : (a b : Bool) → a ≡ true → b ≡ true → (a && b) ≡ true
 both-true a b p q = rw (p, q) refl

@@ -6,13 +6,12 @@ use Prim.Native.Nat.{ℕ, zero, suc, _<_, _≤_}
 use lib.Dec.{eqb, leb, ltb}
 use lib.ListN.{length}
 use Rattle.base.specs.declared.edition.Edition.{Edition}
-use Rattle.base.specs.Edition.{byEdition}
 use Rattle.flow.specs.declared.PointerState.{PointerState}
 use Rattle.flow.specs.Pointer.{stateNumber, ofNumber, attemptOf}
 use Rattle.machine.specs.declared.Op.{Op}
 use Rattle.machine.specs.Machine.{opNumbered}
 use Rattle.table.specs.Layout.{exitAt, markOf, rowsRoom, exitsRoom}
-use Rattle.table.specs.ExitNumber.{targetOf, stateOf, instructionOf, largestExit, lostSlide}
+use Rattle.table.specs.ExitNumber.{targetOf, stateOf, instructionOf, lostSlide, largestIn}
 
 -- the pointers and the instruction of an exit
 abbrev pub pointersOf : ℕ → PointerState
@@ -58,10 +57,6 @@ tooShort n rows exits = ltb (length rows) (rowsRoom n) || ltb (length exits) (ex
 -- a node mark that is neither 0 nor 1
 abbrev pub wrongMark : List ℕ → ℕ → Bool
 wrongMark rows region = ltb 1 (markOf rows region)
-
--- the largest number that stands for something: in edition 2 that of a lost slide (rule 16.5)
-abbrev pub largestIn : Edition → ℕ
-largestIn e = byEdition e largestExit lostSlide
 
 -- an exit above the largest, or whose target is no region; 0, which is no exit, and a lost slide read as target 0
 abbrev pub wrongExit : ℕ → ℕ → ℕ → Bool

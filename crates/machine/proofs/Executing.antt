@@ -13,6 +13,7 @@ use Rattle.text.specs.declared.number.Number.{Number}
 use Rattle.text.specs.declared.number.Reason.{Reason}
 use Rattle.text.specs.declared.input.Taken.{Taken}
 use Rattle.text.specs.declared.input.Taken.the-variants as Line
+use Rattle.text.specs.Input.{Next}
 use Rattle.text.specs.Reading.{takeOf}
 use Rattle.stack.specs.declared.Grown.{Grown}
 use Rattle.stack.specs.declared.Grown.the-variants as Grow
@@ -129,7 +130,7 @@ module _ (stack : List ℤ) (kinds : List ℕ) (values : List ℤ) (at : Core) w
       leaves = rw (q .same-stack, q .same-kinds, q .same-values) refl;
     }
 
-    -- a line is gone
+    -- what is taken of a line is gone
     pub pushed : (v : ℤ) (n : ℕ) (stack′ : List ℤ) (g : Grown) → Grows (Instr.push v) stack (at .depth) stack′ g
         → length stack′ ≡ length stack
         → Execs (take (Line.Push v n)) (slices stack kinds values) at (slices stack′ kinds values) (grownOf (atUsed n at) g)
@@ -153,19 +154,19 @@ module _ (stack : List ℤ) (kinds : List ℕ) (values : List ℤ) (at : Core) w
     unfolding fitting outOf take After
     bad = record { is = refl; leaves = refl }
 
-    pub waits : (f : List ℕ → Number) (takes : Taken → Store → Effect) (g : Given) → g .terms .«abstract_mode» ≡ true
-        → Execs (read g f takes) (slices stack kinds values) at (slices stack kinds values) (Kept (atWait at))
+    pub waits : (f : List ℕ → Number) (next : Next) (takes : Taken → Store → Effect) (g : Given) → g .terms .«abstract_mode» ≡ true
+        → Execs (read g f next takes) (slices stack kinds values) at (slices stack kinds values) (Kept (atWait at))
     unfolding read
-    waits f takes g e =
-        kept (read g f takes) stack kinds values (atWait at) (record { lies = s .lies; holds = s .holds; valid = s .valid })
+    waits f next takes g e =
+        kept (read g f next takes) stack kinds values (atWait at) (record { lies = s .lies; holds = s .holds; valid = s .valid })
         refl refl refl (rw e refl)
 
 -- what the text gives is what is taken
-pub reads : (f : List ℕ → Number) (takes : Taken → Store → Effect) (g : Given) (t : Taken) (stack stack′ : List ℤ) (at : Core) (r : Done)
-    → g .terms .«abstract_mode» ≡ false → t ≡ takeOf f (g .input) (at .reading .used) → StackExecs (takes t) stack at stack′ r
-    → StackExecs (read g f takes) stack at stack′ r
+pub reads : (f : List ℕ → Number) (next : Next) (takes : Taken → Store → Effect) (g : Given) (t : Taken) (stack stack′ : List ℤ) (at : Core) (r : Done)
+    → g .terms .«abstract_mode» ≡ false → t ≡ takeOf f next (g .input) (at .reading .used) → StackExecs (takes t) stack at stack′ r
+    → StackExecs (read g f next takes) stack at stack′ r
 unfolding read
-reads f takes g t stack stack′ at r unmet e x kinds values h =
+reads f next takes g t stack stack′ at r unmet e x kinds values h =
     let y = x kinds values h in
     record {
       is =

@@ -28,7 +28,7 @@ use Rattle.text.specs.Utf8.{Utf8}
 use Rattle.text.specs.Line.{lineAt}
 use Rattle.text.specs.Number.{inRange}
 use Rattle.text.specs.Means.{Means}
-use Rattle.text.specs.Input.{charOf, intOf}
+use Rattle.text.specs.Input.{charOf, intOf, wholeLine, charNext}
 use Rattle.text.specs.Reading.{takeOf}
 use Rattle.text.proofs.Meaning.{skip-means}
 use Rattle.machine.specs.declared.Op.{Op}
@@ -96,14 +96,14 @@ executing g size Dup m = adds-none (m .reading .skips)
 executing g size Roll m = adds-none (m .reading .skips)
 executing g size CharIn m = go (g .terms .«abstract_mode»)
   where
-    go : (t : Bool) → Counts [] m (cond t (does (waiting m)) (take (takeOf charOf (g .input) (m .reading .used)) m))
+    go : (t : Bool) → Counts [] m (cond t (does (waiting m)) (take (takeOf charOf (charNext (g .terms .edition)) (g .input) (m .reading .used)) m))
     go true = adds-none (m .reading .skips)
-    go false = taking (takeOf charOf (g .input) (m .reading .used)) m
+    go false = taking (takeOf charOf (charNext (g .terms .edition)) (g .input) (m .reading .used)) m
 executing g size CharOut m = adds-none (m .reading .skips)
 executing g size IntIn m = go (g .terms .«abstract_mode»)
   where
     line : Taken
-    line = takeOf intOf (g .input) (m .reading .used)
+    line = takeOf intOf wholeLine (g .input) (m .reading .used)
 
     go : (t : Bool) → Counts (cond t [] (reasonIn line)) m (cond t (does (waiting m)) (takeNumber line m))
     go true = adds-none (m .reading .skips)
@@ -128,7 +128,7 @@ unfolding skipped reasonIn
 skipped-means g m why = go (g .terms .«abstract_mode»)
   where
     line : Taken
-    line = takeOf intOf (g .input) (m .reading .used)
+    line = takeOf intOf wholeLine (g .input) (m .reading .used)
 
     by-line : (t : Taken) → line ≡ t → reasonIn t ≡ why ∷ []
         → (cs : List ℕ) × Utf8 (lineAt (g .input) (m .reading .used)) cs × Means cs (Skipped why)

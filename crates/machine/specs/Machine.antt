@@ -11,7 +11,7 @@ use Rattle.flow.specs.Pointer.{rotated, switched}
 use Rattle.text.specs.declared.number.Number.{Number}
 use Rattle.text.specs.declared.input.Taken.{Taken}
 use Rattle.text.specs.declared.input.Taken.the-variants as Line
-use Rattle.text.specs.Input.{charOf, intOf}
+use Rattle.text.specs.Input.{charOf, intOf, Next, wholeLine, charNext}
 use Rattle.text.specs.Reading.{takeOf}
 use Rattle.stack.specs.declared.Pairing.the-variants.{Add, Sub, Mul, Div, Mod, Gt}
 use Rattle.stack.specs.Instr as Instr
@@ -136,7 +136,7 @@ turn f m = does (withStack (Instr.pop (m .stack)) (withPointers (byTop f (m .sta
 unfoldable pub write : (ℤ → List Emit) → Store → Effect
 write f m = does (withStack (Instr.pop (m .stack)) (withOuts (m .outs ++ ofTop f (m .stack)) m))
 
--- CharIn, IntIn: the line is gone, and what it gives, if anything, is pushed (rule 10.4)
+-- CharIn, IntIn: what is taken is gone, and what it gives, if anything, is pushed (rule 10.4)
 unfoldable pub take : Taken → Store → Effect
 take (Line.Push v n) m = does (withUsed n (withStack (v ∷ m .stack) m))
 take (Line.Skip n why) m = does (withUsed n m)
@@ -146,24 +146,26 @@ take Line.BadInput m = bad-input
 abbrev pub takeNumber : Taken → Store → Effect
 takeNumber t m = take t (withSkips (counted t (m .reading .skips)) m)
 
--- in abstract mode nothing is read, and input is awaited (rule 10.7); else a line is taken (rule 10.1)
-unfoldable pub read : Given → (List ℕ → Number) → (Taken → Store → Effect) → Store → Effect
-read g f takes m = cond (g .terms .«abstract_mode») (does (waiting m)) (takes (takeOf f (g .input) (m .reading .used)) m)
+-- in abstract mode nothing is read, and input is awaited (rule 10.7); else a line is read, and taken as far as `next` says
+-- (rules 10.1, 16.4)
+unfoldable pub read : Given → (List ℕ → Number) → Next → (Taken → Store → Effect) → Store → Effect
+read g f next takes m = cond (g .terms .«abstract_mode») (does (waiting m)) (takes (takeOf f next (g .input) (m .reading .used)) m)
 
--- one instruction; size is that of the block just left (rule 8.3)
+-- one instruction; size is that of the block just left (rule 8.3). What differs by the edition is the definition of the three
+-- that take it: `pair`, `roll` and `charNext`
 unfoldable pub exec : Given → ℕ → Op → Store → Effect
 exec g size Nothing m = does m
 exec g size Push m = onStack (Instr.push (pos size)) m
 exec g size Pop m = onStack Instr.pop m
-exec g size (Pair p) m = onStack (Instr.pair p) m
+exec g size (Pair p) m = onStack (Instr.pair (g .terms .edition) p) m
 exec g size Not m = onStack Instr.not m
 exec g size Ptr m = turn rotated m
 exec g size Swi m = turn switched m
 exec g size Dup m = onStack Instr.dup m
-exec g size Roll m = onStack Instr.roll m
-exec g size CharIn m = read g charOf take m
+exec g size Roll m = onStack (Instr.roll (g .terms .edition)) m
+exec g size CharIn m = read g charOf (charNext (g .terms .edition)) take m
 exec g size CharOut m = write charOut m
-exec g size IntIn m = read g intOf takeNumber m
+exec g size IntIn m = read g intOf wholeLine takeNumber m
 exec g size IntOut m = write intOut m
 
 -- what a step comes to: it is kept, or it is not taken and the run stops

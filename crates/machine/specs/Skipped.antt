@@ -5,7 +5,7 @@ use mathlib.Core.List.{List, [], _∷_}
 use Rattle.text.specs.declared.number.Reason.{Reason}
 use Rattle.text.specs.declared.input.Taken.{Taken}
 use Rattle.text.specs.declared.input.Taken.the-variants as Line
-use Rattle.text.specs.Input.{intOf}
+use Rattle.text.specs.Input.{intOf, wholeLine}
 use Rattle.text.specs.Reading.{takeOf}
 use Rattle.machine.specs.declared.Op.{Op}
 use Rattle.machine.specs.declared.Op.the-variants.{Nothing, Push, Pop, Pair, Not, Ptr, Swi, Dup, Roll, CharIn, CharOut, IntIn, IntOut}
@@ -20,7 +20,7 @@ reasonIn Line.BadInput = []
 -- the reason for which an instruction skips a number line, if it does. Only IntIn reads a number, and in abstract mode nothing
 -- is read
 unfoldable pub skipped : Given → Op → Store → List Reason
-skipped g IntIn m = cond (g .terms .«abstract_mode») [] (reasonIn (takeOf intOf (g .input) (m .reading .used)))
+skipped g IntIn m = cond (g .terms .«abstract_mode») [] (reasonIn (takeOf intOf wholeLine (g .input) (m .reading .used)))
 skipped g Nothing m = []
 skipped g Push m = []
 skipped g Pop m = []

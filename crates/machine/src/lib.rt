@@ -10,7 +10,7 @@ use text::input::Taken;
 use text::number::Reason;
 ghost use mathlib.Core.Path.{_≡_};
 ghost use Rattle.flow.specs.Pointer.{Valid, rotated, switched};
-ghost use Rattle.text.specs.Input.{charOf, intOf};
+ghost use Rattle.text.specs.Input.{charOf, intOf, wholeLine, charNext};
 ghost use Rattle.stack.specs.Stack.{Lies};
 ghost use Rattle.machine.specs.Counts.{Countable, oneMore, counted};
 ghost use Rattle.machine.specs.Machine.{given, exec, take, takeNumber, turn, read, opNumbered, statusOf};
@@ -271,17 +271,18 @@ fn take(stack: &mut [i64], at: Core, taken: Taken) -> Done
     }
 }
 
-// CharIn: the first character of a line; in abstract mode nothing is read, and the run is to stop.
+// CharIn: the first character of what is left of a line; in abstract mode nothing is read, and the run is to stop.
 fn char_in(terms: Terms, input: &[u8], stack: &mut [i64], at: Core) -> Done
     requires { ⌜ Lies (now stack) (at .depth) ⌝ }
     requires { ⌜ Valid (at .pointers) ⌝ }
-    ensures { λ r. ⌜ StackExecs (read (given terms (now (input .entry))) charOf take) (now (stack .entry)) at (now (stack .exit)) r ⌝ }
+    ensures { λ r. ⌜ StackExecs (read (given terms (now (input .entry))) charOf (charNext (terms .edition)) take) (now (stack .entry)) at (now (stack .exit)) r ⌝ }
 {
     if terms.abstract_mode {
         return Done::Kept(at.at_wait());
     }
     let used = at.reading.used;
-    take(stack, at, text::input::char_in(input, used))
+    let edition = terms.edition;
+    take(stack, at, text::input::char_in(input, used, edition))
 }
 
 // IntIn: the number that a line is, or one skipped line more; in abstract mode nothing is read, and the run is to stop.
@@ -289,7 +290,7 @@ fn int_in(terms: Terms, input: &[u8], stack: &mut [i64], at: Core) -> Done
     requires { ⌜ Lies (now stack) (at .depth) ⌝ }
     requires { ⌜ Valid (at .pointers) ⌝ }
     requires { ⌜ Countable (at .reading .skips) ⌝ }
-    ensures { λ r. ⌜ StackExecs (read (given terms (now (input .entry))) intOf takeNumber) (now (stack .entry)) at (now (stack .exit)) r ⌝ }
+    ensures { λ r. ⌜ StackExecs (read (given terms (now (input .entry))) intOf wholeLine takeNumber) (now (stack .entry)) at (now (stack .exit)) r ⌝ }
 {
     if terms.abstract_mode {
         return Done::Kept(at.at_wait());
@@ -317,16 +318,17 @@ pub fn exec(
 {
     let d = at.depth;
     let n = at.outputs;
+    let edition = terms.edition;
     match op {
         Op::Nothing => Done::Kept(at),
         Op::Push => after_growth(at, stack::grow(stack, d, size as i64)),
         Op::Pop => Done::Kept(at.at_depth(stack::pop(stack, d))),
-        Op::Pair(pairing) => Done::Kept(at.at_depth(stack::pair(stack, d, pairing))),
+        Op::Pair(pairing) => Done::Kept(at.at_depth(stack::pair(stack, d, pairing, edition))),
         Op::Not => Done::Kept(at.at_depth(stack::not(stack, d))),
         Op::Ptr => turn_pointer(stack, at),
         Op::Swi => flip_chooser(stack, at),
         Op::Dup => after_growth(at, stack::double(stack, d)),
-        Op::Roll => Done::Kept(at.at_depth(stack::roll(stack, d))),
+        Op::Roll => Done::Kept(at.at_depth(stack::roll(stack, d, edition))),
         Op::CharIn => char_in(terms, input, stack, at),
         Op::CharOut => after_output(at, output::char_out(stack, d, kinds, values, n)),
         Op::IntIn => int_in(terms, input, stack, at),

@@ -5,6 +5,7 @@ use mathlib.Core.List.{List, [], _∷_}
 use Prim.Native.Nat.{ℕ, _*_}
 use lib.ListN.{length, take, drop}
 use lib.Seq.{take-at}
+use Rattle.base.specs.Edition.{editionOf}
 use Rattle.base.specs.Numbers.{Numbers, numbers, unlessRefused}
 use Rattle.base.specs.Lent.{lent}
 use Rattle.base.proofs.Refusals.{refused}
@@ -39,20 +40,20 @@ module _ (a : Asked) (l : Lends) (A : Accepted a l) (after : List ℕ) {r : Clas
       ap (take n) painted ∙ take-at colours (drop (length colours) (l .colours)) n (length-under (a .pixels) (a .setting) n (A .passing .bytes))
 
 -- colours that building does not refuse are built
-pub built : {p : Picture} {map rows exits work map′ rows′ exits′ work′ : List ℕ} {r : Built}
-    → building.refusal p (length map) (length rows) (length exits) (length work) ≡ numbers 0 (0 ∷ 0 ∷ [])
-    → building.Outcome p map rows exits work r map′ rows′ exits′ work′ → ((n : ℕ) → r ≡ Done n → ⊥) → ⊥
+pub built : {number : ℕ} {p : Picture} {map rows exits work map′ rows′ exits′ work′ : List ℕ} {r : Built}
+    → building.refusal number p (length map) (length rows) (length exits) (length work) ≡ numbers 0 (0 ∷ 0 ∷ [])
+    → building.Outcome number p map rows exits work r map′ rows′ exits′ work′ → ((n : ℕ) → r ≡ Done n → ⊥) → ⊥
 built z (building.refused k v e h) never = refused k v (0 ∷ 0 ∷ []) (sym e ∙ z)
 built z (building.done e W) never = never _ refl
 
 -- an answer by another name
-pub named : {p : Picture} {map rows exits work map′ rows′ exits′ work′ : List ℕ} {r r′ : Built} → r ≡ r′
-    → building.Outcome p map rows exits work r map′ rows′ exits′ work′ → building.Outcome p map rows exits work r′ map′ rows′ exits′ work′
-named {p} {map} {rows} {exits} {work} {map′} {rows′} {exits′} {work′} e o =
-    subst (λ (x : Built). building.Outcome p map rows exits work x map′ rows′ exits′ work′) e o
+pub named : {number : ℕ} {p : Picture} {map rows exits work map′ rows′ exits′ work′ : List ℕ} {r r′ : Built} → r ≡ r′
+    → building.Outcome number p map rows exits work r map′ rows′ exits′ work′ → building.Outcome number p map rows exits work r′ map′ rows′ exits′ work′
+named {number} {p} {map} {rows} {exits} {work} {map′} {rows′} {exits′} {work′} e o =
+    subst (λ (x : Built). building.Outcome number p map rows exits work x map′ rows′ exits′ work′) e o
 
-written : {p : Picture} {map rows exits work map′ rows′ exits′ work′ : List ℕ} {n : ℕ}
-    → building.Outcome p map rows exits work (Done n) map′ rows′ exits′ work′ → Written p map rows exits work map′ rows′ exits′ work′ n
+written : {number : ℕ} {p : Picture} {map rows exits work map′ rows′ exits′ work′ : List ℕ} {n : ℕ}
+    → building.Outcome number p map rows exits work (Done n) map′ rows′ exits′ work′ → Written (editionOf number) p map rows exits work map′ rows′ exits′ work′ n
 written {n = n} (building.refused k v e h) = absurd (refused k v (n ∷ 0 ∷ []) (sym h))
 written (building.done e W) = W
 
@@ -62,8 +63,8 @@ coloured a l = record { colours = coloursUnder (a .pixels) (a .setting); map = l
 
 pub drawn : (a : Asked) (l l′ : Lends) {r : Pictured} → refusalOf a l ≡ numbers 0 (0 ∷ 0 ∷ [])
     → l′ .colours ≡ lent (coloursUnder (a .pixels) (a .setting)) (l .colours)
-    → Draws (a .height) (a .width) (a .codel) (a .given) (coloured a l) r (coloured a l′) → Outcome a l r l′
+    → Draws (a .height) (a .width) (a .codel) (a .asks) (coloured a l) r (coloured a l′) → Outcome a l r l′
 drawn a l l′ {r} none colours D =
-    let F = picture-follows (D .built) (a .given) (l .run) (D .ran .outcome) in
+    let F = picture-follows (a .asks) (D .built) (l .run) (D .ran .outcome) in
     let R : RanPicture a l l′ (F .0) = record { colours = colours; regions = D .regions; table = written (D .built); follows = F .2; inside = F .3; run = F .4 } in
     subst (λ (x : Pictured). Outcome a l x l′) (sym (D .ran .is ∙ ap (picturedOf (D .regions)) (F .1))) (done none R)

@@ -11,9 +11,9 @@ use mathlib.Core.Logic.{_↔_, _⊎_, inl, inr}
 use Prim.Native.Nat.{ℕ, _+_, _<_, _≤_}
 use native.Mathlib.Omega.{arith}
 use native.Mathlib.Nat.{zero-div, zero-mod, zero-mul, zero-add}
-use borrow.Author.Tests.{eqb-true, eqb-false}
 use lib.IntN.{ℤ}
 use lib.ListN.{length, getD}
+use Rattle.base.specs.declared.edition.Edition.{Edition}
 use Rattle.flow.specs.declared.PointerState.{PointerState}
 use Rattle.flow.specs.Pointer.{Valid, rotated, switched}
 use Rattle.flow.proofs.Order.{valid-rotated, valid-switched}
@@ -22,7 +22,7 @@ use Rattle.text.specs.declared.number.Reason.{Reason}
 use Rattle.text.specs.declared.number.Reason.the-variants.{Ended, Blank, NotNumber, OutOfRange}
 use Rattle.text.specs.declared.input.Taken.{Taken as Line}
 use Rattle.text.specs.declared.input.Taken.the-variants.{Push, Skip, BadInput as BadLine}
-use Rattle.text.specs.Input.{charOf, intOf}
+use Rattle.text.specs.Input.{charOf, intOf, Next, wholeLine, charNext}
 use Rattle.text.specs.Reading.{takeOf}
 use Rattle.machine.specs.declared.Stop.{Stop}
 use Rattle.machine.specs.declared.Stop.the-variants.{Completed, MaxSteps, NeedsInput}
@@ -34,7 +34,7 @@ use Rattle.machine.specs.declared.Op.{Op}
 use Rattle.machine.specs.declared.Op.the-variants.{Nothing, Push as PushOp, Pop, Pair, Not, Ptr, Swi, Dup, Roll, CharIn, CharOut, IntIn, IntOut}
 use Rattle.machine.proofs.Fitting.{fit-kept, fit-stops, not-completed, not-limit, not-wait}
 use Rattle.machine.proofs.Skipping.{exec-counts, exec-total, times-append, skipped-same}
-use Rattle.piet.specs.Moves.{FirstOpen, NoneOpen}
+use Rattle.piet.specs.Moves.{NoMove}
 use Rattle.piet.specs.Follows.{Move, doing, Walk, starts, moves, reasonsOn, Barred, Follows}
 use Rattle.piet.specs.Decoded.{moveBy, onto}
 use Rattle.colour.specs.Palette.{white}
@@ -49,9 +49,10 @@ use Rattle.region.proofs.MapLaws.{map-low}
 use Rattle.interpreter.specs.Table.{pointersOf}
 use Rattle.interpreter.specs.Run.{Job, halts, exitFrom, stepOf, runOf, ran}
 use Rattle.interpreter.specs.History.{Passes, stays, passes, History}
-use Rattle.interpreter.proofs.Histories.{Kept, Halts, awaits, ends, barred, step-kept, step-halts, run-history}
+use Rattle.interpreter.proofs.Histories.{Kept, Halts, awaits, over, barred, step-kept, step-halts, run-history}
 use Rattle.base.proofs.Clash.{clash}
 use Rattle.piet.proofs.Bridge.{Tabled, Taken, none, some, taken}
+use Rattle.piet.proofs.MoveLaws.{not-both}
 
 -- ---- an instruction keeps the pointers a state
 
@@ -74,10 +75,10 @@ either : (t : Bool) (d e : Effect) → Holds d → Holds e → Holds (cond t d e
 either true d e h k = h
 either false d e h k = k
 
-reading : (g : Given) (f : List ℕ → Number) (takes : Line → Store → Effect) (m : Store) → ((t : Line) → Holds (takes t m))
-    → Valid (m .pointers) → Holds (read g f takes m)
+reading : (g : Given) (f : List ℕ → Number) (next : Next) (takes : Line → Store → Effect) (m : Store) → ((t : Line) → Holds (takes t m))
+    → Valid (m .pointers) → Holds (read g f next takes m)
 unfolding read
-reading g f takes m k h = either (g .terms .«abstract_mode») _ _ h (k (takeOf f (g .input) (m .reading .used)))
+reading g f next takes m k h = either (g .terms .«abstract_mode») _ _ h (k (takeOf f next (g .input) (m .reading .used)))
 
 executing : (g : Given) (size : ℕ) (op : Op) (m : Store) → Valid (m .pointers) → Holds (exec g size op m)
 unfolding exec turn write
@@ -90,9 +91,9 @@ executing g size Ptr m h = by-top rotated valid-rotated (m .stack) (m .pointers)
 executing g size Swi m h = by-top switched valid-switched (m .stack) (m .pointers) h
 executing g size Dup m h = h
 executing g size Roll m h = h
-executing g size CharIn m h = reading g charOf take m (λ t. taking t m h) h
+executing g size CharIn m h = reading g charOf (charNext (g .terms .edition)) take m (λ t. taking t m h) h
 executing g size CharOut m h = h
-executing g size IntIn m h = reading g intOf takeNumber m (λ t. taking t _ h) h
+executing g size IntIn m h = reading g intOf wholeLine takeNumber m (λ t. taking t _ h) h
 executing g size IntOut m h = h
 
 -- a move that is kept keeps the pointers a state
@@ -141,7 +142,10 @@ unfolding onto
 onto-length r [] history = omega arith
 onto-length r (x ∷ exits) history = omega (arith, onto-length (targetOf x) exits (moveBy r x ∷ history))
 
-module _ {p : Picture} {map rows exits : List ℕ} {n : ℕ} (S : Sound p) (B : Tabled p map rows exits n) (g : Given) (room : RunRoom) where
+module _ {p : Picture} {map rows exits : List ℕ} {n : ℕ} (S : Sound p) (g : Given) (B : Tabled (g .terms .edition) p map rows exits n) (room : RunRoom) where
+  abbrev edition : Edition
+  edition = g .terms .edition
+
   abbrev job : Job
   job = record { rows = rows; exits = exits; given = g; room = room }
 
@@ -161,7 +165,7 @@ module _ {p : Picture} {map rows exits : List ℕ} {n : ℕ} (S : Sound p) (B : 
   step-walks {history} {m} {m′} s k = go (exit-taken s)
     where
       go : Taken S B (m .region) (m .store .pointers) (exitFrom job m) → Stands (moveBy (m .region) (exitFrom job m) ∷ history) m′
-      go (none z shut) = absurd (eqb-false (exitFrom job m) 0 (k .some) z)
+      go (none z N) = absurd (true≢false (sym z ∙ k .some))
       go (some d F M t u) =
           let x = exitFrom job m in
           let z : doing p map g room (m .region) (pointersOf x) (instructionOf x) (m .store) ≡ keeps (m′ .store) = rw (B .size (m .region) (s .inside)) at (k .store) in
@@ -180,10 +184,6 @@ module _ {p : Picture} {map rows exits : List ℕ} {n : ℕ} (S : Sound p) (B : 
   history-walks {history} {m} {m′} s (passes {m′ = next} {exits = rest} e q) =
       let k = step-kept job m next e in
       subst (λ (r : ℕ). Stands (onto r rest (moveBy (m .region) (exitFrom job m) ∷ history)) m′) (k .region) (history-walks (step-walks s k) q)
-
-  -- none of the eight is open, and one is
-  both : {r target i : ℕ} {q u : PointerState} → NoneOpen p map r q → FirstOpen p map r q target u i → ⊥
-  both N F = N .all (F .attempt) (F .few) .never _ _ _ (F .opens)
 
   -- a run follows the picture and ends at a region that is numbered
   abbrev Ends : End → Type 0
@@ -222,7 +222,7 @@ module _ {p : Picture} {map rows exits : List ℕ} {n : ℕ} (S : Sound p) (B : 
       short h = omega arith
 
       here : (t : Stop) → (t ≡ MaxSteps → ⊥) → ((t ≡ NeedsInput) ↔ (m .store .reading .awaiting ≡ true))
-          → ((t ≡ Completed) ↔ ((m .store .reading .awaiting ≡ false) × NoneOpen p map (m .region) (m .store .pointers)))
+          → ((t ≡ Completed) ↔ ((m .store .reading .awaiting ≡ false) × NoMove edition p map (m .region) (m .store .pointers)))
           → ((t ≡ NeedsInput → ⊥) → (t ≡ Completed → ⊥) → Barred p map g room (m .region) (m .store) t)
           → Ends (record { stop = t; at = m })
       here t x i j k = (
@@ -244,18 +244,18 @@ module _ {p : Picture} {map rows exits : List ℕ} {n : ℕ} (S : Sound p) (B : 
       go (awaits f) T =
           here NeedsInput (λ h. clash (cc)) (λ h. f, λ h. refl) (λ h. clash (cc), λ h. absurd (true≢false (sym f ∙ h .0)))
           (λ y y′. absurd (y refl))
-      go (ends f q) (none z shut) =
-          here Completed (λ h. clash (cc)) (λ h. clash (cc), λ h. absurd (true≢false (sym h ∙ f))) (λ h. (f, shut), λ h. refl)
+      go (over f q) (none z N) =
+          here Completed (λ h. clash (cc)) (λ h. clash (cc), λ h. absurd (true≢false (sym h ∙ f))) (λ h. (f, N), λ h. refl)
           (λ y y′. absurd (y′ refl))
-      go (ends f q) (some d F M t u) = absurd (d (eqb-true (exitFrom job m) 0 q))
-      go (barred f q h) (none z shut) = absurd (eqb-false (exitFrom job m) 0 q z)
+      go (over f q) (some d F M t u) = absurd (true≢false (sym q ∙ d))
+      go (barred f q h) (none z N) = absurd (true≢false (sym z ∙ q))
       go (barred {s = t} f q h) (some d F M low u) =
           let x = exitFrom job m in
           let k = fit-stops room _ h in
           let z : doing p map g room (m .region) (pointersOf x) (instructionOf x) (m .store) ≡ stops t = rw (B .size (m .region) (s .inside)) at h in
           here t (not-limit k)
           (λ y. absurd (not-wait k y), λ y. absurd (true≢false (sym y ∙ f)))
-          (λ y. absurd (not-completed k y), λ y. absurd (both (y .1) F))
+          (λ y. absurd (not-completed k y), λ y. absurd (not-both S (B .map-long) (s .valid) (y .1) F))
           (λ y y′. record { target = targetOf x; pointers = pointersOf x; instruction = instructionOf x; next = F; unkept = z })
 
   -- the rest of a run, from where it stands after a history, follows the picture

@@ -8,6 +8,7 @@ use native.Mathlib.Omega.{arith}
 use native.Mathlib.Decide.{decLt}
 use lib.ListN.{length}
 use lib.Seq.{ext-getD}
+use Rattle.base.specs.declared.edition.Edition.{Edition}
 use Rattle.flow.specs.declared.PointerState.{PointerState}
 use Rattle.flow.specs.Pointer.{Valid, attemptOf}
 use Rattle.flow.proofs.Order.{valid-attempt}
@@ -22,9 +23,10 @@ use Rattle.region.specs.Region.{IsMap}
 use Rattle.region.proofs.MapLaws.{unique}
 use Rattle.exit.specs.Opens.{Opens}
 use Rattle.exit.proofs.Opening.{opens-only, reached}
-use Rattle.piet.specs.Moves.{FirstOpen, NoneOpen}
+use Rattle.piet.specs.Moves.{FirstOpen, NoMove}
 use Rattle.piet.specs.Follows.{Move, doing, Walk, starts, moves, Follows}
 use Rattle.base.proofs.Clash.{clash}
+use Rattle.piet.proofs.MoveLaws.{not-both}
 use Rattle.piet.proofs.Following.{keeps-valid}
 
 -- the reasons to stop: three that the picture and the limit tell, and those of a move that is not kept
@@ -55,7 +57,7 @@ module _ (p : Picture) (map : List ℕ) (g : Given) (room : RunRoom) where
     target : ℕ
     pointers : PointerState
     instruction : ℕ
-    next : FirstOpen p map region (store .pointers) target pointers instruction
+    next : FirstOpen (g .terms .edition) p map region (store .pointers) target pointers instruction
     then : Store
     kept : doing p map g room region pointers instruction store ≡ keeps then
 
@@ -77,21 +79,25 @@ module _ (p : Picture) (map : List ℕ) (g : Given) (room : RunRoom) where
         kept = k;
       })
 
-module _ {p : Picture} {map : List ℕ} (S : Sound p) (L : length map ≡ codels p) where
+module _ {e : Edition} {p : Picture} {map : List ℕ} (S : Sound p) (L : length map ≡ codels p) where
   -- ---- an attempt leads to one region, with one state of the pointers and one instruction; so does the first open one
 
-  not-before : {r t i t′ i′ : ℕ} {q u u′ : PointerState} (F : FirstOpen p map r q t u i) (G : FirstOpen p map r q t′ u′ i′)
+  not-before : {r t i t′ i′ : ℕ} {q u u′ : PointerState} (F : FirstOpen e p map r q t u i) (G : FirstOpen e p map r q t′ u′ i′)
       → F .attempt < G .attempt → ⊥
   not-before F G h = G .before (F .attempt) h .never _ _ _ (F .opens)
 
-  first-only : {r t i t′ i′ : ℕ} {q u u′ : PointerState} → Valid q → FirstOpen p map r q t u i → FirstOpen p map r q t′ u′ i′
+  first-only : {r t i t′ i′ : ℕ} {q u u′ : PointerState} → Valid q → FirstOpen e p map r q t u i → FirstOpen e p map r q t′ u′ i′
       → (t ≡ t′) × (u ≡ u′) × (i ≡ i′)
   first-only {r} {t} {i} {t′} {i′} {q} {u} {u′} v F G =
-      let e : G .attempt ≡ F .attempt = omega (arith, not-before F G, not-before G F) in
+      let k : G .attempt ≡ F .attempt = omega (arith, not-before F G, not-before G F) in
       opens-only (cols-pos S) L (valid-attempt q (F .attempt) v) (F .opens)
-      (subst (λ (k : ℕ). Opens p map r (attemptOf q k) t′ u′ i′) e (G .opens))
+      (subst (λ (j : ℕ). Opens p map r (attemptOf q j) t′ u′ i′) k (G .opens))
 
+module _ {p : Picture} {map : List ℕ} (S : Sound p) (L : length map ≡ codels p) where
   module _ (g : Given) (room : RunRoom) where
+    abbrev edition : Edition
+    edition = g .terms .edition
+
     -- ---- walks of one length end alike
 
     walk-valid : {h : List Move} {r : ℕ} {m : Store} → Walk p map g room h r m → Valid (m .pointers)
@@ -101,19 +107,19 @@ module _ {p : Picture} {map : List ℕ} (S : Sound p) (L : length map ≡ codels
 
     -- from one place the next move is one, and comes to one thing
     move-only : {r t i r′ t′ i′ : ℕ} {m m′ : Store} {u u′ : PointerState} → Valid (m .pointers) → r ≡ r′ → m ≡ m′
-        → FirstOpen p map r (m .pointers) t u i → FirstOpen p map r′ (m′ .pointers) t′ u′ i′
+        → FirstOpen edition p map r (m .pointers) t u i → FirstOpen edition p map r′ (m′ .pointers) t′ u′ i′
         → (t ≡ t′) × (doing p map g room r u i m ≡ doing p map g room r′ u′ i′ m′)
     move-only {r} {t} {i} {r′} {t′} {i′} {m} {m′} {u} {u′} v er em F F′ =
-        let o = first-only v F (subst (λ (x : ℕ). FirstOpen p map x (m .pointers) t′ u′ i′) (sym er)
-        (subst (λ (y : Store). FirstOpen p map r′ (y .pointers) t′ u′ i′) (sym em) F′)) in
+        let o = first-only S L v F (subst (λ (x : ℕ). FirstOpen edition p map x (m .pointers) t′ u′ i′) (sym er)
+        (subst (λ (y : Store). FirstOpen edition p map r′ (y .pointers) t′ u′ i′) (sym em) F′)) in
         (o .0, λ j. doing p map g room (er j) (o .1 j) (o .2 j) (em j))
 
-    -- none is open, and one is
-    none-first : {r r′ t i : ℕ} {m m′ : Store} {u : PointerState} → r ≡ r′ → m ≡ m′ → NoneOpen p map r (m .pointers)
-        → FirstOpen p map r′ (m′ .pointers) t u i → ⊥
-    none-first {r} {r′} {m = m} {m′ = m′} er em N F =
-        subst (λ (y : Store). NoneOpen p map r′ (y .pointers)) em (subst (λ (x : ℕ). NoneOpen p map x (m .pointers)) er N)
-        .all (F .attempt) (F .few) .never _ _ _ (F .opens)
+    -- no move is left, and one is
+    none-first : {r r′ t i : ℕ} {m m′ : Store} {u : PointerState} → Valid (m′ .pointers) → r ≡ r′ → m ≡ m′ → NoMove edition p map r (m .pointers)
+        → FirstOpen edition p map r′ (m′ .pointers) t u i → ⊥
+    none-first {r} {r′} {m = m} {m′ = m′} v er em N F =
+        not-both S L v
+        (subst (λ (y : Store). NoMove edition p map r′ (y .pointers)) em (subst (λ (x : ℕ). NoMove edition p map x (m .pointers)) er N)) F
 
     walk-only : {h h′ : List Move} {r r′ : ℕ} {m m′ : Store} → Walk p map g room h r m → Walk p map g room h′ r′ m′ → length h ≡ length h′
         → (r ≡ r′) × (m ≡ m′)
@@ -137,7 +143,7 @@ module _ {p : Picture} {map : List ℕ} (S : Sound p) (L : length map ≡ codels
         goes : (G : Goes p map g room (e .at .steps)) → e .at .region ≡ G .region → e .at .store ≡ G .store → Reason (e .stop) → ⊥
         goes G er em (by-limit s) = omega (arith, A .limited .0 s, B .within)
         goes G er em (by-waiting s) = true≢false (sym (A .awaited .0 s .1) ∙ ap (λ (m : Store). m .reading .awaiting) em ∙ G .unawaited)
-        goes G er em (by-end s) = none-first er em (A .completed .0 s .2) (G .next)
+        goes G er em (by-end s) = none-first (walk-valid (G .walk)) er em (A .completed .0 s .2) (G .next)
         goes G er em (by-bar x y z) =
             let R = A .barred x y z in
             let o = move-only (walk-valid (A .walk)) er em (R .next) (G .next) in

@@ -1,5 +1,6 @@
 -- Demand 3, proved; what the call from pixels to a run's result keeps of it; and the definitions against the page's rules.
 pub mod Bridge
+pub mod MoveLaws
 pub mod Following
 pub mod Built
 pub mod FollowsOnly

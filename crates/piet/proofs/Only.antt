@@ -11,6 +11,7 @@ use Rattle.base.specs.Numbers.{Numbers, numbers, numberOf}
 use Rattle.base.proofs.Refusals as refusing
 use Rattle.cfg.specs.Build as building
 use Rattle.cfg.proofs.Refusing as table
+use Rattle.machine.specs.Machine.{givenOf}
 use Rattle.machine.specs.Place.{End}
 use Rattle.machine.specs.Held.{roomOf}
 use Rattle.interpreter.specs.Outcome.{slicesOf, endedOf}
@@ -38,11 +39,11 @@ run-picture-only (refused k v e n) (done e′ R′) = absurd (refusing.refused k
 run-picture-only (done e R) (refused k v e′ n′) = absurd (refusing.refused k v (0 ∷ 0 ∷ []) (sym e′ ∙ e))
 run-picture-only {a} {l} (done {e = end} e R) (done {e = end′} e′ R′) =
     let A = accepted a l 0 (0 ∷ 0 ∷ []) refl (sym e) in
-    let S = table.accepted (askedPicture a) (length (l .map)) (length (l .rows)) (length (l .exits)) (length (l .work)) (0 ∷ 0 ∷ []) (sym (A .builds)) in
+    let S = table.accepted (a .asks .edition) (askedPicture a) (length (l .map)) (length (l .rows)) (length (l .exits)) (length (l .work)) (0 ∷ 0 ∷ []) (sym (A .builds)) in
     let T = table.outcome-only (building.done (A .builds) (R .table)) (building.done (A .builds) (R′ .table)) in
     let B = R .table .builds in
     let B′ = R′ .table .builds in
-    let z : end ≡ end′ = picture-only (S .sound) (B .map-long) (B′ .map-long) (B .regions) (B′ .regions) (a .given) (roomOf (l .run)) (R .follows) (R′ .follows) in
+    let z : end ≡ end′ = picture-only (S .sound) (B .map-long) (B′ .map-long) (B .regions) (B′ .regions) (givenOf (a .asks)) (roomOf (l .run)) (R .follows) (R′ .follows) in
     let same = T .answer in
     let n : R .regions ≡ R′ .regions = cc in (
       ap₂ (λ (x : End) (k : ℕ). Finished (endedOf x) k) z n,

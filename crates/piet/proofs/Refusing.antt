@@ -1,17 +1,19 @@
--- The refusals of a call: those of classifying, and where there are none those of building. Assumes nothing.
+-- The refusals of a call: that of an unknown edition, those of classifying, and where there are none those of building. Assumes
+-- nothing.
 use mathlib.Core.Path.{_≡_, refl, sym, ap, _∙_}
 use mathlib.Core.Bool.{Bool, true, false}
 use mathlib.Core.List.{List, [], _∷_, _++_}
 use Prim.Native.Nat.{ℕ, zero, suc, _*_, _≤_}
 use borrow.Author.Tests.{eqb-true, ltb-false, not-false}
 use lib.ListN.{length}
+use Rattle.base.specs.Edition.{unknownEdition}
 use Rattle.base.specs.Numbers.{Numbers, numbers, Row, row, first}
 use Rattle.base.specs.Limits.{wrongSide}
 use Rattle.base.proofs.Refusals.{passed, refused}
 use Rattle.base.proofs.Tests.{neither}
 use Rattle.colour.specs.Classify as classifying
 use Rattle.cfg.specs.Build as building
-use Rattle.cfg.proofs.Refusing.{none-refused}
+use Rattle.cfg.proofs.Refusing.{picture-none-refused, on-known as building-known}
 use Rattle.piet.specs.declared.run_picture.Pictured.the-variants.{Refused}
 use Rattle.piet.specs.RunPicture.{Asked, Lends, askedPicture, refusals, refusal, refusalOf, Outcome, refused as refuse}
 
@@ -67,40 +69,64 @@ module _ (a : Asked) (colours map rows exits work : ℕ) where
   abbrev classified : Numbers
   classified = classifying.answer (a .pixels) (a .height) (a .width) (a .setting) colours
 
-  split : refusal a colours map rows exits work
-      ≡ first (classifying.refusals (a .pixels) (a .height) (a .width) (a .setting) colours) (building.refusal (askedPicture a) map rows exits work)
-  unfolding refusal refusals building.refusal
-  split = first-append (classifying.refusals (a .pixels) (a .height) (a .width) (a .setting) colours) (building.refusals (askedPicture a) map rows exits work) (numbers 0 (0 ∷ 0 ∷ []))
+  -- the tables of classifying and of building, one after the other
+  abbrev both : Numbers
+  both = first (classifying.refusals (a .pixels) (a .height) (a .width) (a .setting) colours) (building.pictureRefusal (askedPicture a) map rows exits work)
 
-  pub on-classifying : (n : ℕ) (v : List ℕ) → (n ≡ 0 → ⊥) → numbers n v ≡ classified → numbers n v ≡ refusal a colours map rows exits work
-  unfolding classifying.answer
-  on-classifying zero v some e = absurd (some refl)
-  on-classifying (suc k) v some e = first-refused (classifying.refusals (a .pixels) (a .height) (a .width) (a .setting) colours) k v (0 ∷ 0 ∷ []) (building.refusal (askedPicture a) map rows exits work) e ∙ sym split
+  split : first (classifying.refusals (a .pixels) (a .height) (a .width) (a .setting) colours ++ building.pictureRefusals (askedPicture a) map rows exits work) (numbers 0 (0 ∷ 0 ∷ []))
+      ≡ both
+  unfolding building.pictureRefusal
+  split = first-append (classifying.refusals (a .pixels) (a .height) (a .width) (a .setting) colours) (building.pictureRefusals (askedPicture a) map rows exits work) (numbers 0 (0 ∷ 0 ∷ []))
+
+  pub on-unknown : unknownEdition (a .asks .edition) ≡ true → numbers 15 (0 ∷ 0 ∷ []) ≡ refusal a colours map rows exits work
+  unfolding refusal refusals first
+  on-unknown u = rw u refl
+
+  on-known : unknownEdition (a .asks .edition) ≡ false → both ≡ refusal a colours map rows exits work
+  unfolding refusal refusals first
+  on-known u = rw u (sym split)
 
   pub passes-on : (v : List ℕ) → numbers 0 v ≡ classified → Passes (a .pixels) (a .height) (a .width) (a .setting) colours
   unfolding classifying.answer
   passes-on v e = passes (a .pixels) (a .height) (a .width) (a .setting) colours v (numbers 0 (0 ∷ 0 ∷ [])) e
 
-  pub on-building : (v : List ℕ) → numbers 0 v ≡ classified → building.refusal (askedPicture a) map rows exits work ≡ refusal a colours map rows exits work
-  on-building v e = sym (split ∙ passes-on v e .next (building.refusal (askedPicture a) map rows exits work))
+  module _ (known : unknownEdition (a .asks .edition) ≡ false) where
+    pub on-classifying : (n : ℕ) (v : List ℕ) → (n ≡ 0 → ⊥) → numbers n v ≡ classified → numbers n v ≡ refusal a colours map rows exits work
+    unfolding classifying.answer
+    on-classifying zero v some e = absurd (some refl)
+    on-classifying (suc k) v some e = first-refused (classifying.refusals (a .pixels) (a .height) (a .width) (a .setting) colours) k v (0 ∷ 0 ∷ []) (building.pictureRefusal (askedPicture a) map rows exits work) e ∙ on-known known
+
+    pub on-building : (v : List ℕ) → numbers 0 v ≡ classified → building.pictureRefusal (askedPicture a) map rows exits work ≡ refusal a colours map rows exits work
+    on-building v e = sym (passes-on v e .next (building.pictureRefusal (askedPicture a) map rows exits work)) ∙ on-known known
 
 module _ (a : Asked) (l : Lends) where
   -- what a call that is not refused may rely on
   pub record Accepted : Type 0 where
     pub passing : Passes (a .pixels) (a .height) (a .width) (a .setting) (length (l .colours))
     pub classifies : classifying.answer (a .pixels) (a .height) (a .width) (a .setting) (length (l .colours)) ≡ numbers 0 (0 ∷ 0 ∷ [])
-    pub builds : building.refusal (askedPicture a) (length (l .map)) (length (l .rows)) (length (l .exits)) (length (l .work)) ≡ numbers 0 (0 ∷ 0 ∷ [])
+    pub builds : building.refusal (a .asks .edition) (askedPicture a) (length (l .map)) (length (l .rows)) (length (l .exits)) (length (l .work)) ≡ numbers 0 (0 ∷ 0 ∷ [])
     pub none : refusalOf a l ≡ numbers 0 (0 ∷ 0 ∷ [])
+
+  -- a call that is not refused names an edition
+  known : (v : List ℕ) → numbers 0 v ≡ refusalOf a l → unknownEdition (a .asks .edition) ≡ false
+  unfolding refusal refusals
+  known v h = passed _ 14 _ v _ _ h .0
 
   pub accepted : (n : ℕ) (v : List ℕ) → n ≡ 0 → numbers n v ≡ refusalOf a l → Accepted
   unfolding classifying.answer
   accepted n v none e =
       let h : numbers 0 v ≡ refusalOf a l = ap (λ (k : ℕ). numbers k v) (sym none) ∙ e in
-      let b = building.refusal (askedPicture a) (length (l .map)) (length (l .rows)) (length (l .exits)) (length (l .work)) in
-      let s = split a (length (l .colours)) (length (l .map)) (length (l .rows)) (length (l .exits)) (length (l .work)) in
+      let u = known v h in
+      let b = building.pictureRefusal (askedPicture a) (length (l .map)) (length (l .rows)) (length (l .exits)) (length (l .work)) in
+      let s = sym (on-known a (length (l .colours)) (length (l .map)) (length (l .rows)) (length (l .exits)) (length (l .work)) u) in
       let P = passes (a .pixels) (a .height) (a .width) (a .setting) (length (l .colours)) v b (h ∙ s) in
-      let z = none-refused (askedPicture a) (length (l .map)) (length (l .rows)) (length (l .exits)) (length (l .work)) v (h ∙ s ∙ P .next b) in
-      record { passing = P; classifies = P .next (numbers 0 (0 ∷ 0 ∷ [])); builds = z; none = s ∙ P .next b ∙ z }
+      let z = picture-none-refused (askedPicture a) (length (l .map)) (length (l .rows)) (length (l .exits)) (length (l .work)) v (h ∙ s ∙ P .next b) in
+      record {
+        passing = P;
+        classifies = P .next (numbers 0 (0 ∷ 0 ∷ []));
+        builds = sym (building-known (a .asks .edition) (askedPicture a) (length (l .map)) (length (l .rows)) (length (l .exits)) (length (l .work)) u) ∙ z;
+        none = s ∙ P .next b ∙ z;
+      }
 
 -- a refusal changes nothing
 pub refuses : (a : Asked) (l : Lends) (n y x : ℕ) → (n ≡ 0 → ⊥) → numbers n (y ∷ x ∷ []) ≡ refusalOf a l

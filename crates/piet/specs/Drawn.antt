@@ -5,7 +5,7 @@ use Prim.Native.Nat.{ℕ}
 use Rattle.picture.specs.Picture.{picture}
 use Rattle.cfg.specs.declared.building.Built.the-variants.{Done}
 use Rattle.cfg.specs.Build as building
-use Rattle.machine.specs.Machine.{Given}
+use Rattle.machine.specs.Machine.{Asks}
 use Rattle.machine.specs.Held.{Slices}
 use Rattle.interpreter.specs.declared.Ran.{Ran}
 use Rattle.interpreter.specs.declared.Ran.the-variants as Ran
@@ -20,13 +20,13 @@ picturedOf n (Ran.Finished e) = Finished e n
 picturedOf n (Ran.Refused number) = Refused number 0 0
 
 -- what the run of a table answers and leaves
-pub record RanTable (n : ℕ) (rows exits : List ℕ) (g : Given) (l : Slices) (r : Pictured) (l′ : Slices) : Type 0 where
+pub record RanTable (n : ℕ) (rows exits : List ℕ) (a : Asks) (l : Slices) (r : Pictured) (l′ : Slices) : Type 0 where
   pub answer : Ran
   pub is : r ≡ picturedOf n answer
-  pub outcome : running.Outcome n rows exits g l answer l′
+  pub outcome : running.Outcome n rows exits a l answer l′
 
-pub record Draws (height width codel : ℕ) (g : Given) (l : Lends) (r : Pictured) (l′ : Lends) : Type 0 where
+pub record Draws (height width codel : ℕ) (a : Asks) (l : Lends) (r : Pictured) (l′ : Lends) : Type 0 where
   pub regions : ℕ
-  pub built : building.Outcome (picture height width codel (l .colours)) (l .map) (l .rows) (l .exits) (l .work) (Done regions)
+  pub built : building.Outcome (a .edition) (picture height width codel (l .colours)) (l .map) (l .rows) (l .exits) (l .work) (Done regions)
       (l′ .map) (l′ .rows) (l′ .exits) (l′ .work)
-  pub ran : RanTable regions (l′ .rows) (l′ .exits) g (l .run) r (l′ .run)
+  pub ran : RanTable regions (l′ .rows) (l′ .exits) a (l .run) r (l′ .run)

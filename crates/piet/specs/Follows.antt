@@ -6,6 +6,7 @@ use mathlib.Core.List.{List, [], _∷_, _++_}
 use mathlib.Core.Logic.{_↔_}
 use Prim.Native.Nat.{ℕ, _<_, _≤_}
 use lib.ListN.{length}
+use Rattle.base.specs.declared.edition.Edition.{Edition}
 use Rattle.flow.specs.declared.PointerState.{PointerState}
 use Rattle.text.specs.declared.number.Reason.{Reason}
 use Rattle.machine.specs.declared.Stop.{Stop}
@@ -14,7 +15,7 @@ use Rattle.machine.specs.Machine.{Given, RunRoom, Store, Out, keeps, stops, opN
 use Rattle.machine.specs.Counts.{countOf, times}
 use Rattle.machine.specs.Skipped.{skipped}
 use Rattle.machine.specs.Place.{start, End}
-use Rattle.piet.specs.Moves.{FirstOpen, NoneOpen}
+use Rattle.piet.specs.Moves.{FirstOpen, NoMove}
 use Rattle.picture.specs.Picture.{Picture, codels}
 use Rattle.region.specs.Tally.{tally}
 
@@ -26,6 +27,10 @@ pub record Move : Type 0 where
   pub instruction : ℕ
 
 module _ (p : Picture) (map : List ℕ) (g : Given) (room : RunRoom) where
+  -- the edition of the run: it says how the attempts are judged and what the instructions do
+  abbrev edition : Edition
+  edition = g .terms .edition
+
   -- what the instruction of a move from region r comes to: it is executed with the size of the block just left
   -- (rule 8.3), and kept where there is room (rules 11.4 to 11.7)
   abbrev pub doing : ℕ → PointerState → ℕ → Store → Out
@@ -38,7 +43,7 @@ module _ (p : Picture) (map : List ℕ) (g : Given) (room : RunRoom) where
     starts : Walk [] 0 (start .store)
     moves : {history : List Move} {r target i : ℕ} {m m′ : Store} {u : PointerState} → Walk history r m
         → m .reading .awaiting ≡ false
-        → FirstOpen p map r (m .pointers) target u i
+        → FirstOpen edition p map r (m .pointers) target u i
         → doing r u i m ≡ keeps m′
         → Walk (record { from = r; to = target; pointers = u; instruction = i } ∷ history) target m′
 
@@ -52,7 +57,7 @@ module _ (p : Picture) (map : List ℕ) (g : Given) (room : RunRoom) where
     pub target : ℕ
     pub pointers : PointerState
     pub instruction : ℕ
-    pub next : FirstOpen p map r (m .pointers) target pointers instruction
+    pub next : FirstOpen edition p map r (m .pointers) target pointers instruction
     pub unkept : doing r pointers instruction m ≡ stops s
 
   abbrev limit : ℕ
@@ -61,7 +66,7 @@ module _ (p : Picture) (map : List ℕ) (g : Given) (room : RunRoom) where
   -- A run of a picture under its limit ends in e: there is a history that leads to the region and the store reported, its
   -- pointers included; its length is the steps reported; of each reason to skip a line as many are reported as its moves
   -- skipped for it; and it stops as is reported and not otherwise: the limit is reached (rule 11.2); below it input is awaited
-  -- (11.3); or no attempt is open (11.1); else the next move can't be kept.
+  -- (11.3); or no move is left (11.1, 16.6); else the next move can't be kept.
   pub record Follows (e : End) : Type 0 where
     pub history : List Move
     pub walk : Walk history (e .at .region) (e .at .store)
@@ -71,6 +76,6 @@ module _ (p : Picture) (map : List ℕ) (g : Given) (room : RunRoom) where
     pub limited : (e .stop ≡ MaxSteps) ↔ (e .at .steps ≡ limit)
     pub awaited : (e .stop ≡ NeedsInput) ↔ ((e .at .steps < limit) × (e .at .store .reading .awaiting ≡ true))
     pub completed : (e .stop ≡ Completed)
-        ↔ ((e .at .steps < limit) × (e .at .store .reading .awaiting ≡ false) × NoneOpen p map (e .at .region) (e .at .store .pointers))
+        ↔ ((e .at .steps < limit) × (e .at .store .reading .awaiting ≡ false) × NoMove edition p map (e .at .region) (e .at .store .pointers))
     pub barred : (e .stop ≡ MaxSteps → ⊥) → (e .stop ≡ NeedsInput → ⊥) → (e .stop ≡ Completed → ⊥)
         → Barred (e .at .region) (e .at .store) (e .stop)

@@ -4,14 +4,15 @@ use mathlib.Core.List.{List, [], _∷_, _++_}
 use Prim.Native.Nat.{ℕ, suc, _<_}
 use lib.ListN.{length, take}
 use lib.IntN.{ℤ}
-use Rattle.base.specs.Numbers.{Numbers, numbers, Row, first}
+use Rattle.base.specs.Edition.{unknownEdition, editionOf}
+use Rattle.base.specs.Numbers.{Numbers, numbers, Row, row, first}
 use Rattle.base.specs.Lent.{lent}
 use Rattle.picture.specs.Picture.{Picture, picture, codels}
 use Rattle.colour.specs.Classify as classifying
 use Rattle.colour.specs.Classify.{coloursUnder}
 use Rattle.cfg.specs.Build as building
 use Rattle.cfg.specs.Build.{Written}
-use Rattle.machine.specs.Machine.{Given}
+use Rattle.machine.specs.Machine.{Asks, givenOf}
 use Rattle.machine.specs.Place.{End}
 use Rattle.machine.specs.Held as held
 use Rattle.machine.specs.Held.{Slices, roomOf}
@@ -27,7 +28,7 @@ pub record Asked : Type 0 where
   pub width : ℕ
   pub setting : ℕ
   pub codel : ℕ
-  pub given : Given
+  pub asks : Asks
 
 -- what it is lent: the room of the colours, of the table and of the run
 pub record Lends : Type 0 where
@@ -42,11 +43,12 @@ pub record Lends : Type 0 where
 abbrev pub askedPicture : Asked → Picture
 askedPicture a = picture (a .height) (a .width) (a .codel) (coloursUnder (a .pixels) (a .setting))
 
--- the refusals of classifying, then those of building (rule 12.5): the two tables, one after the other; the last five numbers
--- are the lengths of the lent slices
+-- an unknown edition, then the refusals of classifying, then those of building (rule 12.5): the tables, one after the other; the
+-- last five numbers are the lengths of the lent slices
 unfoldable pub refusals : Asked → ℕ → ℕ → ℕ → ℕ → ℕ → List Row
 refusals a colours map rows exits work =
-    classifying.refusals (a .pixels) (a .height) (a .width) (a .setting) colours ++ building.refusals (askedPicture a) map rows exits work
+    row (unknownEdition (a .asks .edition)) (numbers 15 (0 ∷ 0 ∷ []))
+    ∷ (classifying.refusals (a .pixels) (a .height) (a .width) (a .setting) colours ++ building.pictureRefusals (askedPicture a) map rows exits work)
 
 unfoldable pub refusal : Asked → ℕ → ℕ → ℕ → ℕ → ℕ → Numbers
 refusal a colours map rows exits work = first (refusals a colours map rows exits work) (numbers 0 (0 ∷ 0 ∷ []))
@@ -60,13 +62,13 @@ abbrev pub numbered : Pictured → Numbers
 numbered (Refused number row column) = numbers number (row ∷ column ∷ [])
 numbered (Finished e regions) = numbers 0 (resultOf e ++ (regions ∷ []))
 
--- what a call leaves that is not refused, where the run ends in e. Demand 3 is `follows`: the run is that of the picture,
--- its regions numbered in the map by their first codels.
+-- what a call leaves that is not refused, where the run ends in e: one edition is that of the table and of the run. Demand 3 is
+-- `follows`: the run is that of the picture, its regions numbered in the map by their first codels.
 pub record RanPicture (a : Asked) (l l′ : Lends) (e : End) : Type 0 where
   pub colours : l′ .colours ≡ lent (coloursUnder (a .pixels) (a .setting)) (l .colours)
   pub regions : ℕ
-  pub table : Written (askedPicture a) (l .map) (l .rows) (l .exits) (l .work) (l′ .map) (l′ .rows) (l′ .exits) (l′ .work) regions
-  pub follows : Follows (askedPicture a) (take (codels (askedPicture a)) (l′ .map)) (a .given) (roomOf (l .run)) e
+  pub table : Written (editionOf (a .asks .edition)) (askedPicture a) (l .map) (l .rows) (l .exits) (l .work) (l′ .map) (l′ .rows) (l′ .exits) (l′ .work) regions
+  pub follows : Follows (askedPicture a) (take (codels (askedPicture a)) (l′ .map)) (givenOf (a .asks)) (roomOf (l .run)) e
   pub inside : e .at .region < regions
   pub run : l′ .run ≡ slicesOf (l .run) (e .at .store)
 
@@ -77,9 +79,9 @@ pub data Outcome (a : Asked) (l : Lends) : Pictured → Lends → Type 0 where
       → Outcome a l (Finished (endedOf e) (R .regions)) l′
 
 -- the arguments of a call, in their order
-abbrev pub asked : List ℕ → ℕ → ℕ → ℕ → ℕ → Given → Asked
-asked pixels height width setting codel given =
-    record { pixels = pixels; height = height; width = width; setting = setting; codel = codel; given = given }
+abbrev pub asked : List ℕ → ℕ → ℕ → ℕ → ℕ → Asks → Asked
+asked pixels height width setting codel asks =
+    record { pixels = pixels; height = height; width = width; setting = setting; codel = codel; asks = asks }
 
 abbrev pub lends : List ℕ → List ℕ → List ℕ → List ℕ → List ℕ → List ℤ → List ℕ → List ℤ → Lends
 lends colours map rows exits work stack kinds values =

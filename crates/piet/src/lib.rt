@@ -12,4 +12,3 @@ pub use interpreter::Forever;
 pub use interpreter::Ran;
 pub use interpreter::determine_runs_forever;
 pub use interpreter::run;
-pub use machine::Terms;

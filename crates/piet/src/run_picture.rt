@@ -1,18 +1,20 @@
 // From pixels to a run's result, over lent room: classifying, building and running, one after the other.
 ghost use mathlib.Core.Path.{_≡_};
-ghost use mathlib.Core.Bool.{false};
-ghost use mathlib.Core.List.{[], _∷_};
-ghost use Prim.Native.Nat.{_*_, _<_};
+ghost use mathlib.Core.Bool.{Bool, false};
+ghost use mathlib.Core.List.{List, [], _∷_};
+ghost use Prim.Native.Nat.{ℕ, _*_, _<_};
 ghost use lib.ListN.{length, getD};
 ghost use Rattle.base.specs.Numbers.{numbers};
 ghost use Rattle.base.specs.Limits.{wrongSide};
 ghost use Rattle.picture.specs.Picture.{picture};
 ghost use Rattle.colour.specs.Classify.{coloursUnder};
 ghost use Rattle.cfg.specs.Build as building;
-ghost use Rattle.machine.specs.Machine.{Given, given};
+ghost use Rattle.machine.specs.Machine.{asks};
 ghost use Rattle.machine.specs.Held.{slices};
 ghost use Rattle.piet.specs.RunPicture.{Outcome, asked, lends, refusal};
 ghost use Rattle.piet.specs.Drawn.{RanTable, Draws};
+use base::edition::UNKNOWN_EDITION;
+use base::edition::unknown_edition;
 use base::limits::wrong_side;
 use cfg::Built;
 use cfg::codel_count;
@@ -25,7 +27,6 @@ use colour::classify::placeless;
 use colour::palette::WHITE;
 use interpreter::Ended;
 use interpreter::Ran;
-use machine::Terms;
 
 // What a call answers: where the run stopped and how many regions the picture has, or a refusal with the place of an
 // unknown pixel.
@@ -65,7 +66,7 @@ fn check_table(
 ) -> u32
     requires { ⌜ (wrongSide height ≡ false) × (wrongSide width ≡ false) ⌝ }
     requires { ⌜ length (now pixels) ≡ 3 * (height * width) ⌝ }
-    ensures { λ r. ⌜ numbers r (0 ∷ 0 ∷ []) ≡ building.refusal (picture height width codel (coloursUnder (now (pixels .entry)) setting)) map rows exits work ⌝ }
+    ensures { λ r. ⌜ numbers r (0 ∷ 0 ∷ []) ≡ building.pictureRefusal (picture height width codel (coloursUnder (now (pixels .entry)) setting)) map rows exits work ⌝ }
 {
     if wrong_side(codel) {
         return 6;
@@ -85,21 +86,25 @@ fn check_table(
     0
 }
 
-// All tests, those of classifying first (rule 12.5). Nothing is written.
+// All tests, that of the edition first, then those of classifying (rule 12.5). Nothing is written.
 fn check(
     pixels: &[u8],
     height: usize,
     width: usize,
     setting: u8,
     codel: usize,
+    edition: u32,
     colours: usize,
     map: usize,
     rows: usize,
     exits: usize,
     work: usize,
 ) -> Told
-    ensures { λ r. ⌜ ((g : Given) → numbers (r .number) (r .row ∷ r .column ∷ []) ≡ refusal (asked (now (pixels .entry)) height width setting codel g) colours map rows exits work) ⌝ }
+    ensures { λ r. ⌜ ((limit : ℕ) (mode : Bool) (input : List ℕ) → numbers (r .number) (r .row ∷ r .column ∷ []) ≡ refusal (asked (now (pixels .entry)) height width setting codel (asks edition limit mode input)) colours map rows exits work) ⌝ }
 {
+    if unknown_edition(edition) {
+        return placeless(UNKNOWN_EDITION);
+    }
     let answer = colour::classify::check(pixels, height, width, setting, colours);
     let tested = in_numbers(answer);
     if tested.number != 0 {
@@ -123,15 +128,28 @@ fn run_table(
     n: usize,
     rows: &[u32],
     exits: &[u32],
-    terms: Terms,
+    edition: u32,
+    limit: u64,
+    abstract_mode: bool,
     input: &[u8],
     stack: &mut [i64],
     kinds: &mut [u8],
     values: &mut [i64],
 ) -> Pictured
-    ensures { λ r. ⌜ RanTable n (now (rows .entry)) (now (exits .entry)) (given terms (now (input .entry))) (slices (now (stack .entry)) (now (kinds .entry)) (now (values .entry))) r (slices (now (stack .exit)) (now (kinds .exit)) (now (values .exit))) ⌝ }
+    ensures { λ r. ⌜ RanTable n (now (rows .entry)) (now (exits .entry)) (asks edition limit «abstract_mode» (now (input .entry))) (slices (now (stack .entry)) (now (kinds .entry)) (now (values .entry))) r (slices (now (stack .exit)) (now (kinds .exit)) (now (values .exit))) ⌝ }
 {
-    match interpreter::run(n, rows, exits, terms, input, stack, kinds, values) {
+    match interpreter::run(
+        n,
+        rows,
+        exits,
+        edition,
+        limit,
+        abstract_mode,
+        input,
+        stack,
+        kinds,
+        values,
+    ) {
         Ran::Finished(ended) => Pictured::Finished { ended, regions: n },
         Ran::Refused(number) => Pictured::Refused {
             number,
@@ -147,7 +165,9 @@ fn run_colours(
     height: usize,
     width: usize,
     codel: usize,
-    terms: Terms,
+    edition: u32,
+    limit: u64,
+    abstract_mode: bool,
     input: &[u8],
     map: &mut [u32],
     rows: &mut [u32],
@@ -157,12 +177,25 @@ fn run_colours(
     kinds: &mut [u8],
     values: &mut [i64],
 ) -> Pictured
-    requires { ⌜ building.refusal (picture height width codel (now colours)) (length (now map)) (length (now rows)) (length (now exits)) (length (now work)) ≡ numbers 0 (0 ∷ 0 ∷ []) ⌝ }
-    ensures { λ r. ⌜ Draws height width codel (given terms (now (input .entry))) (lends (now (colours .entry)) (now (map .entry)) (now (rows .entry)) (now (exits .entry)) (now (work .entry)) (now (stack .entry)) (now (kinds .entry)) (now (values .entry))) r (lends (now (colours .entry)) (now (map .exit)) (now (rows .exit)) (now (exits .exit)) (now (work .exit)) (now (stack .exit)) (now (kinds .exit)) (now (values .exit))) ⌝ }
+    requires { ⌜ building.refusal edition (picture height width codel (now colours)) (length (now map)) (length (now rows)) (length (now exits)) (length (now work)) ≡ numbers 0 (0 ∷ 0 ∷ []) ⌝ }
+    ensures { λ r. ⌜ Draws height width codel (asks edition limit «abstract_mode» (now (input .entry))) (lends (now (colours .entry)) (now (map .entry)) (now (rows .entry)) (now (exits .entry)) (now (work .entry)) (now (stack .entry)) (now (kinds .entry)) (now (values .entry))) r (lends (now (colours .entry)) (now (map .exit)) (now (rows .exit)) (now (exits .exit)) (now (work .exit)) (now (stack .exit)) (now (kinds .exit)) (now (values .exit))) ⌝ }
 {
-    let built = cfg::build(colours, height, width, codel, map, rows, exits, work);
+    let built = cfg::build(
+        colours, height, width, codel, edition, map, rows, exits, work,
+    );
     if let Built::Done { regions } = built {
-        return run_table(regions, rows, exits, terms, input, stack, kinds, values);
+        return run_table(
+            regions,
+            rows,
+            exits,
+            edition,
+            limit,
+            abstract_mode,
+            input,
+            stack,
+            kinds,
+            values,
+        );
     }
     // never reached: what building refuses is not passed on
     Pictured::Refused {
@@ -172,15 +205,17 @@ fn run_colours(
     }
 }
 
-// The run of a picture of pixels: its colours, its table and the run's stack and outputs stand in the lent slices. Where
-// the call is refused, no slice is changed (rule 12.1).
+// The run of a picture of pixels: its colours, its table and the run's stack and outputs stand in the lent slices. Table
+// and run are of one edition. Where the call is refused, no slice is changed (rule 12.1).
 pub fn run_picture(
     pixels: &[u8],
     height: usize,
     width: usize,
     setting: u8,
     codel: usize,
-    terms: Terms,
+    edition: u32,
+    limit: u64,
+    abstract_mode: bool,
     input: &[u8],
     colours: &mut [u8],
     map: &mut [u32],
@@ -191,7 +226,7 @@ pub fn run_picture(
     kinds: &mut [u8],
     values: &mut [i64],
 ) -> Pictured
-    ensures { λ r. ⌜ Outcome (asked (now (pixels .entry)) height width setting codel (given terms (now (input .entry)))) (lends (now (colours .entry)) (now (map .entry)) (now (rows .entry)) (now (exits .entry)) (now (work .entry)) (now (stack .entry)) (now (kinds .entry)) (now (values .entry))) r (lends (now (colours .exit)) (now (map .exit)) (now (rows .exit)) (now (exits .exit)) (now (work .exit)) (now (stack .exit)) (now (kinds .exit)) (now (values .exit))) ⌝ }
+    ensures { λ r. ⌜ Outcome (asked (now (pixels .entry)) height width setting codel (asks edition limit «abstract_mode» (now (input .entry)))) (lends (now (colours .entry)) (now (map .entry)) (now (rows .entry)) (now (exits .entry)) (now (work .entry)) (now (stack .entry)) (now (kinds .entry)) (now (values .entry))) r (lends (now (colours .exit)) (now (map .exit)) (now (rows .exit)) (now (exits .exit)) (now (work .exit)) (now (stack .exit)) (now (kinds .exit)) (now (values .exit))) ⌝ }
 {
     let refusal = check(
         pixels,
@@ -199,6 +234,7 @@ pub fn run_picture(
         width,
         setting,
         codel,
+        edition,
         colours.len(),
         map.len(),
         rows.len(),
@@ -219,7 +255,9 @@ pub fn run_picture(
         height,
         width,
         codel,
-        terms,
+        edition,
+        limit,
+        abstract_mode,
         input,
         map,
         rows,

@@ -2,7 +2,9 @@
 use mathlib.Core.Path.{_≡_, refl}
 use Prim.Native.Nat.{ℕ, _<_, _≤_}
 use native.Mathlib.Omega.{arith}
-use Rattle.table.specs.ExitNumber.{exitNumber, targetOf, stateOf, instructionOf, largestExit}
+use Rattle.base.specs.declared.edition.Edition.{Edition}
+use Rattle.base.specs.declared.edition.Edition.the-variants.{Rust, Page}
+use Rattle.table.specs.ExitNumber.{exitNumber, targetOf, stateOf, instructionOf, largestExit, largestIn}
 
 module _ (target state instruction : ℕ) (h : target < 65536) (k : state < 8) where
   pub target-back : targetOf (exitNumber target state instruction) ≡ target
@@ -19,3 +21,8 @@ module _ (target state instruction : ℕ) (h : target < 65536) (k : state < 8) w
 
 pub largest : exitNumber 65535 7 17 ≡ largestExit
 largest = refl
+
+-- and stands in both editions
+pub largest-in : (e : Edition) → largestExit ≤ largestIn e
+largest-in Rust = omega arith
+largest-in Page = omega arith

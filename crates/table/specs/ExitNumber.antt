@@ -1,5 +1,7 @@
 -- The exit number (rule 7.3). Assumes nothing.
 use Prim.Native.Nat.{ℕ, _+_, _-_, _*_, _/_, _%_}
+use Rattle.base.specs.declared.edition.Edition.{Edition}
+use Rattle.base.specs.Edition.{byEdition}
 
 -- the number of an open exit; 0 where there is none
 abbrev pub exitNumber : ℕ → ℕ → ℕ → ℕ
@@ -22,3 +24,7 @@ largestExit = 9437184
 -- one above it: in edition 2 the exit of a slide that is lost (rule 16.5); it names no region
 abbrev pub lostSlide : ℕ
 lostSlide = 9437185
+
+-- the largest number that an exit may have (rules 12.2, 16.5)
+abbrev pub largestIn : Edition → ℕ
+largestIn e = byEdition e largestExit lostSlide

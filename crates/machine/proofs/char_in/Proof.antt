@@ -2,7 +2,7 @@
 use borrow.Author.Needs.{needs}
 use denote.Ref.{now}
 use Rattle.text.proofs.ReadingLaws.{takes-is}
-use Rattle.text.specs.Input.{charOf}
+use Rattle.text.specs.Input.{charOf, charNext}
 use Rattle.machine.specs.Machine.{given, take}
 use Rattle.machine.proofs.Executing.{waits}
 use Rattle.machine.proofs.Executing as Law
@@ -17,7 +17,7 @@ returns c =
     λ kinds values h.
     let s = c .before .before .before in
     rw (c .at-wait .ensures)
-    (waits (now (s .args .stack)) kinds values (s .args .at) (record { lies = s .pre .0; holds = h; valid = s .pre .1 }) charOf take
+    (waits (now (s .args .stack)) kinds values (s .args .at) (record { lies = s .pre .0; holds = h; valid = s .pre .1 }) charOf (charNext (s .args .terms .edition)) take
     (given (s .args .terms) (now (s .args .input))) (c .before .if1 .taken))
 
 char-in-requires : tie.Need-char-in-requires
@@ -33,9 +33,9 @@ returns-2 : tie.Need-returns-2
 returns-2 c =
     let s = c .before .before .before .before .before .before in
     let t = c .before .before .char-in in
-    Law.reads charOf take (given (s .args .terms) (now (s .args .input))) (t .result) (now (s .args .stack)) (c .before .take .last .0) (s .args .at)
+    Law.reads charOf (charNext (s .args .terms .edition)) take (given (s .args .terms) (now (s .args .input))) (t .result) (now (s .args .stack)) (c .before .take .last .0) (s .args .at)
     (c .before .take .result) (c .before .before .before .before .if1 .left)
-    (takes-is charOf (now (s .args .input)) (s .args .at .reading .used) (t .result) (t .ensures)) (c .before .take .ensures)
+    (takes-is charOf (charNext (s .args .terms .edition)) (now (s .args .input)) (s .args .at .reading .used) (t .result) (t .ensures)) (c .before .take .ensures)
 
 pub char-in-spec : {M : Type 1} → statement M
 char-in-spec =

@@ -157,7 +157,7 @@ returns-4 c =
     let q = c .before .before .pair in
     rw (o .1, c .at-depth2 .ensures)
     (stack-kept (now (s .args .stack)) (now (s .args .kinds)) (now (s .args .values)) (s .args .at) (s .pre .0)
-    (Instr.pair (o .0 .0)) (q .last .0) (q .result) (q .ensures) (q .kept .0))
+    (Instr.pair _ (o .0 .0)) (q .last .0) (q .result) (q .ensures) (q .kept .0))
 
 same-length-4 : tie.Need-same-length-4
 same-length-4 c = search needs
@@ -211,7 +211,7 @@ returns-9 c =
     let q = c .before .before .roll in
     rw (c .before .before .before .before .enum-told8 .given .1, c .at-depth4 .ensures)
     (stack-kept (now (s .args .stack)) (now (s .args .kinds)) (now (s .args .values)) (s .args .at) (s .pre .0)
-    Instr.roll (q .last .0) (q .result) (q .ensures) (q .kept .0))
+    (Instr.roll _) (q .last .0) (q .result) (q .ensures) (q .kept .0))
 
 same-length-9 : tie.Need-same-length-9
 same-length-9 c = search needs

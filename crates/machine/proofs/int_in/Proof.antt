@@ -2,7 +2,7 @@
 use borrow.Author.Needs.{needs}
 use denote.Ref.{now}
 use Rattle.text.proofs.ReadingLaws.{takes-is}
-use Rattle.text.specs.Input.{intOf}
+use Rattle.text.specs.Input.{intOf, wholeLine}
 use Rattle.machine.specs.Machine.{given, takeNumber}
 use Rattle.machine.proofs.Executing.{waits, takes-number}
 use Rattle.machine.proofs.Executing as Law
@@ -17,7 +17,7 @@ returns c =
     λ kinds values h.
     let s = c .before .before .before in
     rw (c .at-wait .ensures)
-    (waits (now (s .args .stack)) kinds values (s .args .at) (record { lies = s .pre .0; holds = h; valid = s .pre .1 .0 }) intOf takeNumber
+    (waits (now (s .args .stack)) kinds values (s .args .at) (record { lies = s .pre .0; holds = h; valid = s .pre .1 .0 }) intOf wholeLine takeNumber
     (given (s .args .terms) (now (s .args .input))) (c .before .if1 .taken))
 
 int-in-requires : tie.Need-int-in-requires
@@ -42,9 +42,9 @@ returns-2 c =
     let k = c .before .before in
     let t = k .before .before .before .before .int-in in
     let s = k .before .before .before .before .before .before .before in
-    Law.reads intOf takeNumber (given (s .args .terms) (now (s .args .input))) (t .result) (now (s .args .stack)) (c .before .take .last .0) (s .args .at)
+    Law.reads intOf wholeLine takeNumber (given (s .args .terms) (now (s .args .input))) (t .result) (now (s .args .stack)) (c .before .take .last .0) (s .args .at)
     (c .before .take .result) (k .before .before .before .before .before .if1 .left)
-    (takes-is intOf (now (s .args .input)) (s .args .at .reading .used) (t .result) (t .ensures))
+    (takes-is intOf wholeLine (now (s .args .input)) (s .args .at .reading .used) (t .result) (t .ensures))
     (takes-number (t .result) (now (s .args .stack)) (c .before .take .last .0) (s .args .at) (c .before .take .result)
     (rw (k .at-skips .ensures, k .before .after .ensures) at (c .before .take .ensures)))
 

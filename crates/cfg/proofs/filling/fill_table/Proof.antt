@@ -44,7 +44,7 @@ keep-nodes-requires c κs =
     let the-leave-by = at-leave-by .leave-by in
     let the-pre = start .pre in
     let few = map-few _ _ _ (the-begin .ensures .regions) in
-    (omega (arith, the-search .kept .1 .1 .1 .0, the-begin .ensures .rows-long), (omega (arith, the-search .kept .1 .1 .1 .1 .0, the-leave-by .kept .1 .0, the-pre .0 .exits-long), omega (arith, the-pre .0 .sound .few)))
+    (omega (arith, the-search .kept .1 .1 .1 .1 .0, the-begin .ensures .rows-long), (omega (arith, the-search .kept .1 .1 .1 .1 .1 .0, the-leave-by .kept .1 .0, the-pre .0 .exits-long), omega (arith, the-pre .0 .sound .few)))
 
 fill-u32-requires : tie.Need-fill-u32-requires
 fill-u32-requires c κs = search needs
@@ -77,9 +77,9 @@ returns c =
     let the-args = start .args in
     let the-fill-u32 = c .before .before .fill-u32 in
     builds (the-begin .ensures) (rw (the-pre .1 .rows-are, the-pre .1 .cols-are, the-pre .0 .exits-long) at (the-leave-by .ensures)) (the-search .ensures) (the-keep-nodes .ensures)
-    (the-keep-nodes .kept .1 .0 ∙ the-search .kept .1 .1 .1 .0 ∙ the-begin .ensures .rows-long)
-    (the-keep-nodes .kept .1 .1 .0 ∙ the-search .kept .1 .1 .1 .1 .0 ∙ the-leave-by .kept .1 .0 ∙ the-pre .0 .exits-long)
-    (cleared-work (pictureOf (the-args .colours .now) (the-args .s)) (the-search .last .1 .1 .1 .1 .1 .0) (the-search .kept .1 .1 .1 .1 .1 .0 ∙ the-begin .kept .1 .1 .1 .1 .1 .0 ∙ the-pre .0 .work-long) (the-fill-u32 .ensures))
+    (the-keep-nodes .kept .1 .0 ∙ the-search .kept .1 .1 .1 .1 .0 ∙ the-begin .ensures .rows-long)
+    (the-keep-nodes .kept .1 .1 .0 ∙ the-search .kept .1 .1 .1 .1 .1 .0 ∙ the-leave-by .kept .1 .0 ∙ the-pre .0 .exits-long)
+    (cleared-work (pictureOf (the-args .colours .now) (the-args .s)) (the-search .last .1 .1 .1 .1 .1 .1 .0) (the-search .kept .1 .1 .1 .1 .1 .1 .0 ∙ the-begin .kept .1 .1 .1 .1 .1 .0 ∙ the-pre .0 .work-long) (the-fill-u32 .ensures))
 
 pub fill-table-spec : {M : Type 1} → statement M
 fill-table-spec =

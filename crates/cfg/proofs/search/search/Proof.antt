@@ -10,10 +10,10 @@ use Rattle.cfg.proofs.search.search.Statement.{statement}
 use Rattle.cfg.proofs.search.search.Tie as tie
 
 abbrev Inv-loop : tie.InvT-loop
-Inv-loop colours s map rows₀ exits₀ work₀ tail₀ head₀ rows exits work tail head = Searching (pictureOf colours s) map rows₀ exits₀ work₀ head rows exits work tail
+Inv-loop colours s edition map rows₀ exits₀ work₀ tail₀ head₀ rows exits work tail head = Searching edition (pictureOf colours s) map rows₀ exits₀ work₀ head rows exits work tail
 
 abbrev μ-loop : tie.MeasureT-loop
-μ-loop colours s map rows₀ exits₀ work₀ tail₀ head₀ rows exits work tail head = codels (pictureOf colours s) - head
+μ-loop colours s edition map rows₀ exits₀ work₀ tail₀ head₀ rows exits work tail head = codels (pictureOf colours s) - head
 
 visit-requires : tie.Need-visit-requires Inv-loop μ-loop
 visit-requires c κs =

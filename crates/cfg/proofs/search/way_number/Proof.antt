@@ -14,6 +14,9 @@ enum-told c = search needs
 enum-known-way : tie.Need-enum-known-way
 enum-known-way c = search needs
 
+lost-exit-requires : tie.Need-lost-exit-requires
+lost-exit-requires c κs = search needs
+
 enum-known-way-2 : tie.Need-enum-known-way-2
 enum-known-way-2 c = search needs
 
@@ -77,7 +80,7 @@ returns c = rw (c .enum-told .given .1)
 
 returns-2 : tie.Need-returns-2
 unfolding wayNumber
-returns-2 c = rw (c .before .way .given .1)
+returns-2 c = rw (c .before .before .way .given .1) (c .lost-exit .ensures)
 
 returns-3 : tie.Need-returns-3
 returns-3 c =
@@ -85,14 +88,14 @@ returns-3 c =
     let the-way2 = c .before .before .before .before .way2 in
     let the-args = c .before .before .before .before .before .before .before .before .args in
     let the-colour-at = c .before .before .colour-at in
-    rw (the-way2 .given .1) (step-number (pictureOf (the-args .colours .now) (the-args .s)) (the-args .map .now) (the-args .from) (the-args .state) _ _ (the-pre .1 .1 .1 .cols-are) _ _ _ _ (c .exit-to .ensures) (c .before .decode .ensures) (the-colour-at .ensures))
+    rw (the-way2 .given .1) (step-number (the-args .edition) (pictureOf (the-args .colours .now) (the-args .s)) (the-args .map .now) (the-args .from) (the-args .state) _ _ (the-pre .1 .1 .1 .cols-are) _ _ _ _ (c .exit-to .ensures) (c .before .decode .ensures) (the-colour-at .ensures))
 
 returns-4 : tie.Need-returns-4
 returns-4 c =
     let the-pre = c .before .before .before .before .before .before .before .pre in
     let the-way3 = c .before .before .before .way3 in
     let the-args = c .before .before .before .before .before .before .before .args in
-    rw (the-way3 .given .1) (glide-number (pictureOf (the-args .colours .now) (the-args .s)) (the-args .map .now) (the-args .from) (the-args .state) _ _ (the-pre .1 .1 .1 .cols-are) _ _ _ _ _ _ (c .exit-to2 .ensures) (c .before .number .ensures))
+    rw (the-way3 .given .1) (glide-number (the-args .edition) (pictureOf (the-args .colours .now) (the-args .s)) (the-args .map .now) (the-args .from) (the-args .state) _ _ (the-pre .1 .1 .1 .cols-are) _ _ _ _ _ _ (c .exit-to2 .ensures) (c .before .number .ensures))
 
 pub way-number-spec : {M : Type 1} → statement M
 way-number-spec =
@@ -100,6 +103,7 @@ way-number-spec =
     (tie.spec
     enum-told
     enum-known-way
+    lost-exit-requires
     enum-known-way-2
     colour-at-requires
     decode-requires

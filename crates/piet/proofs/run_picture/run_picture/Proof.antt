@@ -9,7 +9,8 @@ use lib.ListN.{length, take}
 use lib.Seq.{length-take-le}
 use Rattle.base.proofs.Sides.{side, area}
 use Rattle.colour.specs.Classify.{coloursUnder}
-use Rattle.machine.specs.Machine.{Given, given}
+use Rattle.machine.specs.Machine as machine
+use Rattle.machine.specs.Machine.{Asks}
 use Rattle.piet.specs.RunPicture.{Asked, Lends, asked, lends}
 use Rattle.piet.proofs.Refusing.{Accepted, accepted, refuses}
 use Rattle.piet.proofs.Drawing.{painted, painted-part, drawn}
@@ -18,8 +19,8 @@ use Rattle.piet.proofs.run_picture.run_picture.Statement.{statement}
 use Rattle.piet.proofs.run_picture.run_picture.Tie as tie
 
 -- what the call is given, and what it is lent
-abbrev what : (c : tie.Start) → Given
-what c = given (c .args .terms) (c .args .input .now)
+abbrev what : (c : tie.Start) → Asks
+what c = machine.asks (c .args .edition) (c .args .limit) (c .args .abstract-mode) (c .args .input .now)
 
 abbrev asks : (c : tie.Start) → Asked
 asks c = asked (c .args .pixels .now) (c .args .height) (c .args .width) (c .args .setting) (c .args .codel) (what c)
@@ -51,7 +52,7 @@ called c = c .before .before .before .before .before .before .before
 -- nothing is refused
 accepting : (c : tie.Else1) → Accepted (asks (begun c)) (has (begun c))
 accepting c =
-    accepted (asks (begun c)) (has (begun c)) (c .before .before .check .result .number) (c .before .before .check .result .row ∷ c .before .before .check .result .column ∷ []) (c .if1 .left) (c .before .before .check .ensures (what (begun c)))
+    accepted (asks (begun c)) (has (begun c)) (c .before .before .check .result .number) (c .before .before .check .result .row ∷ c .before .before .check .result .column ∷ []) (c .if1 .left) (let a = begun c .args in c .before .before .check .ensures (a .limit) (a .abstract-mode) (a .input .now))
 
 -- the pixels fit into the colours as they are after classifying, and their colours stand there
 fits : (c : tie.After-classify) → let a = asks (begun (c .before .before)) in a .height * a .width ≤ length (c .classify .last .1 .1 .1 .1 .0)
@@ -67,7 +68,7 @@ returns : tie.Need-returns
 returns c =
     let k = c .before .before in
     let s = begin k in
-    refuses (asks s) (has s) (k .check .result .number) (k .check .result .row) (k .check .result .column) (c .if1 .taken) (k .check .ensures (what s))
+    refuses (asks s) (has s) (k .check .result .number) (k .check .result .row) (k .check .result .column) (c .if1 .taken) (k .check .ensures (s .args .limit) (s .args .abstract-mode) (s .args .input .now))
 
 classify-requires : tie.Need-classify-requires
 classify-requires c κs = search needs
