@@ -1,7 +1,8 @@
 // Replays stored answers of Rust's text functions, with a model's reasons for skipped lines: `stdin` holds inputs, each a byte for its length and so many bytes;
-// `stdout` has a line for each, `c A n i B m`: what CharIn and IntIn take of it, the value pushed, `b` where the line is not
-// UTF-8, or that the step is skipped, each with the bytes consumed. A skipped CharIn is `s`, a skipped IntIn the letter of its
-// reason: `e` no byte is left, `w` white space alone, `n` not a number, `o` out of range.
+// `stdout` has a line for each, `c A n i B m`: what CharIn, of edition 1, and IntIn take of it, the value pushed, `b` where the line
+// is not UTF-8, or that the step is skipped, each with the bytes consumed. A skipped CharIn is `s`, a skipped IntIn the letter of
+// its reason: `e` no byte is left, `w` white space alone, `n` not a number, `o` out of range.
+use base::edition::Edition;
 use libc::STDIN_FILENO;
 use libc::STDOUT_FILENO;
 use text::input::Taken;
@@ -54,7 +55,7 @@ fn print_taken(t: Taken, asks_why: bool) {
 
 fn print_input(input: &[u8]) {
     io::write_all(STDOUT_FILENO, b"c ");
-    print_taken(text::input::char_in(input, 0), false);
+    print_taken(text::input::char_in(input, 0, Edition::Rust), false);
     io::write_all(STDOUT_FILENO, b" i ");
     print_taken(text::input::int_in(input, 0), true);
     io::write_all(STDOUT_FILENO, b"\n");

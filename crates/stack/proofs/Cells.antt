@@ -7,9 +7,10 @@ use native.Mathlib.Omega.{arith}
 use lib.ListN.{length, getD, set, drop, length-set}
 use lib.Seq.{getD-set-same, getD-set-other}
 use lib.IntN.{ℤ, pos}
+use Rattle.base.specs.declared.edition.Edition.{Edition}
 use Rattle.stack.specs.Stack.{stackOf, Lies, Does, Overflows}
 use Rattle.stack.specs.Instr as Instr
-use Rattle.stack.specs.Instr.{binary}
+use Rattle.stack.specs.Instr.{binary, inPlace, undone}
 
 -- two numbers in an order differ
 pub apart : {a b : ℕ} → a < b → a ≡ b → ⊥
@@ -110,23 +111,24 @@ one cells zero h = absurd (omega arith)
 one cells (suc d) h = rw less-one refl
 
 -- an instruction on two values: too few of them, one that left v, and one that left nothing
-pub few : (f : ℤ → ℤ → List ℤ) (cells : List ℤ) (d : ℕ) → d < 2 → Lies cells d → Does (binary f) cells d cells d
-unfolding binary stackOf
-few f cells zero h l = record { lies = l; is = refl }
-few f cells (suc zero) h l = record { lies = l; is = refl }
-few f cells (suc (suc d)) h l = absurd (omega arith)
+module _ (e : Edition) (f : ℤ → ℤ → List ℤ) where
+  pub few : (cells : List ℤ) (d : ℕ) → d < 2 → Lies cells d → Does (binary e f) cells d cells d
+  unfolding binary stackOf
+  few cells zero h l = record { lies = l; is = refl }
+  few cells (suc zero) h l = record { lies = l; is = refl }
+  few cells (suc (suc d)) h l = absurd (omega arith)
 
-pub left : (f : ℤ → ℤ → List ℤ) {cells cells′ : List ℤ} {d d′ : ℕ} {v : ℤ} → 2 ≤ d
-    → f (getD cells (d - 2) (pos 0)) (getD cells (d - 1) (pos 0)) ≡ v ∷ [] → Does (λ s. v ∷ drop 2 s) cells d cells′ d′
-    → Does (binary f) cells d cells′ d′
-unfolding binary
-left f {cells} {cells′} {d} h e p = record { lies = p .lies; is = p .is ∙ rw (two cells d h, e) refl }
+  pub left : {cells cells′ : List ℤ} {d d′ : ℕ} {v : ℤ} → 2 ≤ d
+      → f (getD cells (d - 2) (pos 0)) (getD cells (d - 1) (pos 0)) ≡ v ∷ [] → Does (λ s. v ∷ drop 2 s) cells d cells′ d′
+      → Does (binary e f) cells d cells′ d′
+  unfolding binary inPlace
+  left {cells} {cells′} {d} h g p = record { lies = p .lies; is = p .is ∙ rw (two cells d h, g) refl }
 
-pub gone : (f : ℤ → ℤ → List ℤ) {cells cells′ : List ℤ} {d d′ : ℕ} → 2 ≤ d
-    → f (getD cells (d - 2) (pos 0)) (getD cells (d - 1) (pos 0)) ≡ [] → Does (drop 2) cells d cells′ d′
-    → Does (binary f) cells d cells′ d′
-unfolding binary
-gone f {cells} {cells′} {d} h e p = record { lies = p .lies; is = p .is ∙ rw (two cells d h, e) refl }
+  pub gone : {cells cells′ : List ℤ} {d d′ : ℕ} → 2 ≤ d
+      → f (getD cells (d - 2) (pos 0)) (getD cells (d - 1) (pos 0)) ≡ [] → Does (undone e) cells d cells′ d′
+      → Does (binary e f) cells d cells′ d′
+  unfolding binary inPlace
+  gone {cells} {cells′} {d} h g p = record { lies = p .lies; is = p .is ∙ rw (two cells d h, g) refl }
 
 -- the depth is the stack's length
 pub stackOf-length : (cells : List ℤ) (d : ℕ) → length (stackOf cells d) ≡ d

@@ -1,9 +1,10 @@
 -- What one Roll costs (rule 9.11): its exchanges write each of the cells that turn at most twice and no other cell, whatever a is, and what
--- `roll` leaves in the cells is what its exchanges make of them once those of a and n are cleared.
+-- `roll` leaves in the cells is what its exchanges make of them once those of a and n are cleared; at a bad depth edition 2 writes nothing.
 --     roll-twice, roll-elsewhere    how often a cell is written
 --     roll-few                      how many writes there are in all
 --     unwritten                     what is not counted as written keeps its value
 --     roll-exchanged                what the contract of `roll` settles is what they make
+--     roll-untouched                at a bad depth in edition 2 it is what was there
 -- Assumes nothing.
 use mathlib.Core.Path.{_≡_, refl, ap, _∙_}
 use mathlib.Core.List.{List, [], _∷_, _++_}
@@ -17,14 +18,16 @@ use lib.Dec.{eqb}
 use lib.ListN.{length, getD, set, drop, length-append, length-set}
 use lib.Seq.{getD-set-other}
 use lib.IntN.{ℤ, pos}
+use Rattle.base.specs.declared.edition.Edition.{Edition}
+use Rattle.base.specs.declared.edition.Edition.the-variants.{Rust, Page}
 use Rattle.word.specs.Word.{residue}
 use Rattle.word.proofs.Wrapping.{residue-lt}
 use Rattle.stack.specs.Stack.{stackOf, Lies, Does}
 use Rattle.stack.specs.Instr as Instr
-use Rattle.stack.specs.Instr.{places}
+use Rattle.stack.specs.Instr.{undone, badDepth, places}
 use Rattle.stack.specs.Exchange.{Exchanges, exchange, exchanged, inward, reversal, threeReversals, rollExchanges, writesTo}
 use Rattle.stack.proofs.Cells.{pops-at, pop-pop, then, two, stackOf-length}
-use Rattle.stack.proofs.Rolling.{some, places-le, roll-none, roll-some}
+use Rattle.stack.proofs.Rolling.{badAt, some, places-bad, places-le, roll-bad, roll-none, roll-some}
 use Rattle.stack.proofs.Exchanging.{turns, length-exchanged}
 use Rattle.stack.proofs.Only.{does-only}
 
@@ -156,7 +159,7 @@ pub example : (rollExchanges (pos 1 ∷ pos 3 ∷ pos 6 ∷ pos 5 ∷ pos 4 ∷ 
     × (writesTo 1 ((0, 1) ∷ (0, 2) ∷ []) ≡ 1)
     × (writesTo 2 ((0, 1) ∷ (0, 2) ∷ []) ≡ 1)
     × (writesTo 3 ((0, 1) ∷ (0, 2) ∷ []) ≡ 0)
-unfolding rollExchanges threeReversals inward places residue writesTo
+unfolding rollExchanges threeReversals inward badDepth places residue writesTo
 example = (refl, refl, refl, refl, refl)
 
 -- a cell that is not written keeps its value
@@ -189,9 +192,12 @@ module _ (c : List ℤ) (d : ℕ) (h : 2 ≤ d) (l : Lies c d) where
       less : (d : ℕ) → d - 1 - 1 ≡ d - 2
       less d = omega arith
 
-  does-roll : Does Instr.roll c d (exchanged (rollExchanges (stackOf c d)) cleared) (d - 2)
+  abbrev made : List ℤ
+  made = exchanged (rollExchanges (stackOf c d)) cleared
+
+  does-good : (e : Edition) → badAt c d ≡ false → Does (Instr.roll e) c d made (d - 2)
   unfolding rollExchanges exchanged
-  does-roll = rw (two c d h, stackOf-length c (d - 2)) (go (eqb m 0) refl)
+  does-good e b = rw (two c d h, stackOf-length c (d - 2)) (go (eqb m 0) refl)
     where
       a : ℤ
       a = getD c (d - 1) (pos 0)
@@ -199,15 +205,36 @@ module _ (c : List ℤ) (d : ℕ) (h : 2 ≤ d) (l : Lies c d) where
       m : ℕ
       m = places (getD c (d - 2) (pos 0)) (d - 2)
 
-      go : (t : Bool) → eqb m 0 ≡ t → Does Instr.roll c d (exchanged (cond t [] (threeReversals (d - 2) m (residue a m))) cleared) (d - 2)
-      go true e = roll-none h clears (eqb-true m 0 e)
-      go false e =
-          let g = some m (eqb-false m 0 e) in
-          roll-some h clears m (residue a m) refl g refl
+      go : (t : Bool) → eqb m 0 ≡ t → Does (Instr.roll e) c d (exchanged (cond t [] (threeReversals (d - 2) m (residue a m))) cleared) (d - 2)
+      go true f = roll-none e h b clears (eqb-true m 0 f)
+      go false f =
+          let g = some m (eqb-false m 0 f) in
+          roll-some e h b clears m (residue a m) refl g refl
           (turns cleared (d - 2) m (residue a m) (omega (arith, residue-lt a m g)) (places-le (getD c (d - 2) (pos 0)) (d - 2)) (clears .lies))
 
-  pub roll-exchanged : (c′ : List ℤ) (d′ : ℕ) → length c′ ≡ length c → Does Instr.roll c d c′ d′
+  does-bad : badAt c d ≡ true → Does (Instr.roll Rust) c d made (d - 2)
+  unfolding rollExchanges exchanged undone
+  does-bad b =
+      rw (two c d h, stackOf-length c (d - 2), places-bad (getD c (d - 2) (pos 0)) (d - 2) b) (roll-bad Rust h b clears)
+
+  does-roll : (e : Edition) → (e ≡ Rust) ⊎ (badAt c d ≡ false) → Does (Instr.roll e) c d made (d - 2)
+  does-roll e (inr b) = does-good e b
+  does-roll e (inl r) = rw r (go (badAt c d) refl)
+    where
+      go : (t : Bool) → badAt c d ≡ t → Does (Instr.roll Rust) c d made (d - 2)
+      go true b = does-bad b
+      go false b = does-good Rust b
+
+  pub roll-exchanged : (e : Edition) → (e ≡ Rust) ⊎ (badAt c d ≡ false)
+      → (c′ : List ℤ) (d′ : ℕ) → length c′ ≡ length c → Does (Instr.roll e) c d c′ d′
       → c′ ≡ exchanged (rollExchanges (stackOf c d)) cleared
-  roll-exchanged c′ d′ e p =
-      does-only Instr.roll c d c′ (exchanged (rollExchanges (stackOf c d)) cleared) e
-      (length-exchanged (rollExchanges (stackOf c d)) cleared ∙ simp length-set) d′ (d - 2) p does-roll .1
+  roll-exchanged e o c′ d′ n p =
+      does-only (Instr.roll e) c d c′ made n (length-exchanged (rollExchanges (stackOf c d)) cleared ∙ simp length-set) d′ (d - 2) p
+      (does-roll e o) .1
+
+  -- at a bad depth edition 2 writes nothing (rule 16.2)
+  pub roll-untouched : badAt c d ≡ true
+      → (c′ : List ℤ) (d′ : ℕ) → length c′ ≡ length c → Does (Instr.roll Page) c d c′ d′ → c′ ≡ c
+  unfolding undone
+  roll-untouched b c′ d′ n p =
+      does-only (Instr.roll Page) c d c′ c n refl d′ d p (roll-bad Page h b (record { lies = l; is = refl })) .1

@@ -35,7 +35,7 @@ unfoldable pub threeReversals : ℕ → ℕ → ℕ → Exchanges
 threeReversals d n k = reversal (d - n) (d - k) ++ reversal (d - k) d ++ reversal (d - n) d
 
 -- the exchanges of a Roll, by the stack before it, top first: a, the depth n and the values s, of which a and n are taken off before the
--- exchanges; none where no value turns
+-- exchanges; none where no value turns, as at a bad depth, where in edition 2 a and n stay
 unfoldable pub rollExchanges : List ℤ → Exchanges
 rollExchanges [] = []
 rollExchanges (a ∷ []) = []

@@ -9,6 +9,7 @@ ghost use Rattle.word.specs.Word.{values};
 ghost use Rattle.stack.specs.Stack.{Lies, Does, Grows};
 ghost use Rattle.stack.specs.Instr as Instr;
 ghost use Rattle.stack.specs.Exchange.{exchanged, reversal, threeReversals};
+use base::edition::Edition;
 use word::Divided;
 
 // v on top, where there is room. With pop and put the only function that stores one value: all others are made of these.
@@ -63,6 +64,18 @@ fn pop_two(stack: &mut [i64], depth: usize) -> usize
     pop(stack, d)
 }
 
+// What a Div, Mod or Roll that cannot be done leaves: its two operands are gone, or they stay (rule 16.2).
+fn undo(stack: &mut [i64], depth: usize, edition: Edition) -> usize
+    requires { ⌜ Lies (now stack) depth ⌝ }
+    requires { ⌜ 2 ≤ depth ⌝ }
+    ensures { λ r. ⌜ Does (Instr.undone edition) (now (stack .entry)) depth (now (stack .exit)) r ⌝ }
+{
+    match edition {
+        Edition::Rust => pop_two(stack, depth),
+        Edition::Page => depth,
+    }
+}
+
 // The instructions that take two values and give at most one: one function and one proof for the six.
 pub enum Pairing {
     Add,
@@ -83,32 +96,32 @@ fn above(b: i64, a: i64) -> i64
     0
 }
 
-// What op gives of b and a: a value, or nothing, and then both are gone.
-fn combine(op: Pairing, b: i64, a: i64) -> Divided
-    ensures { λ r. ⌜ values r ≡ Instr.combined op b a ⌝ }
+// What op gives of b and a: a value, or nothing.
+fn combine(op: Pairing, b: i64, a: i64, edition: Edition) -> Divided
+    ensures { λ r. ⌜ values r ≡ Instr.combined edition op b a ⌝ }
 {
     match op {
         Pairing::Add => Divided::Value(word::wrapping_add(b, a)),
         Pairing::Sub => Divided::Value(word::wrapping_sub(b, a)),
         Pairing::Mul => Divided::Value(word::wrapping_mul(b, a)),
         Pairing::Div => word::div(b, a),
-        Pairing::Mod => word::modulo(b, a),
+        Pairing::Mod => word::modulo(b, a, edition),
         Pairing::Gt => Divided::Value(above(b, a)),
     }
 }
 
-// Add, Sub, Mul, Div, Mod or Gt of the two uppermost, a on top of b (rules 9.3 to 9.6).
-pub fn pair(stack: &mut [i64], depth: usize, op: Pairing) -> usize
+// Add, Sub, Mul, Div, Mod or Gt of the two uppermost, a on top of b (rules 9.3 to 9.6, 16.2, 16.3).
+pub fn pair(stack: &mut [i64], depth: usize, op: Pairing, edition: Edition) -> usize
     requires { ⌜ Lies (now stack) depth ⌝ }
-    ensures { λ r. ⌜ Does (Instr.pair op) (now (stack .entry)) depth (now (stack .exit)) r ⌝ }
+    ensures { λ r. ⌜ Does (Instr.pair edition op) (now (stack .entry)) depth (now (stack .exit)) r ⌝ }
 {
     if depth < 2 {
         return depth;
     }
     let a = stack[depth - 1];
     let b = stack[depth - 2];
-    let Divided::Value(v) = combine(op, b, a) else {
-        return pop_two(stack, depth);
+    let Divided::Value(v) = combine(op, b, a, edition) else {
+        return undo(stack, depth, edition);
     };
     replace(stack, depth, v)
 }
@@ -170,33 +183,33 @@ fn turn(stack: &mut [i64], depth: usize, n: usize, k: usize)
     reverse(stack, depth - n, depth);
 }
 
-// How many of d values turn: n, or none where n is negative or above d.
-fn places(n: i64, d: usize) -> usize
-    ensures { λ r. ⌜ r ≡ Instr.places n d ⌝ }
+// Whether a depth n is negative, or above the d values that there are.
+fn bad_depth(n: i64, d: usize) -> bool
+    ensures { λ r. ⌜ r ≡ Instr.badDepth n d ⌝ }
 {
     if n < 0 {
-        return 0;
+        return true;
     }
     let m = n as usize;
-    if d < m {
-        return 0;
-    }
-    m
+    d < m
 }
 
-// Roll: a on top of the depth n. Both are gone whatever n is; a is taken modulo n, so that -2^63 needs no case of its own
-// (rule 9.8).
-pub fn roll(stack: &mut [i64], depth: usize) -> usize
+// Roll: a on top of the depth n. Where n is bad the edition says what becomes of the two; else both are gone. a is taken modulo n,
+// so that -2^63 needs no case of its own (rules 9.8, 16.2).
+pub fn roll(stack: &mut [i64], depth: usize, edition: Edition) -> usize
     requires { ⌜ Lies (now stack) depth ⌝ }
-    ensures { λ r. ⌜ Does Instr.roll (now (stack .entry)) depth (now (stack .exit)) r ⌝ }
+    ensures { λ r. ⌜ Does (Instr.roll edition) (now (stack .entry)) depth (now (stack .exit)) r ⌝ }
 {
     if depth < 2 {
         return depth;
     }
     let a = stack[depth - 1];
     let n = stack[depth - 2];
+    if bad_depth(n, depth - 2) {
+        return undo(stack, depth, edition);
+    }
     let d = pop_two(stack, depth);
-    let m = places(n, d);
+    let m = n as usize;
     if m == 0 {
         return d;
     }

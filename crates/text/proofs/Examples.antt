@@ -1,16 +1,20 @@
 -- The definitions at worked examples. Assumes nothing.
 use mathlib.Core.Path.{_≡_, refl}
 use mathlib.Core.Bool.{true, false}
-use mathlib.Core.List.{[], _∷_}
+use Prim.Native.Nat.{ℕ}
+use mathlib.Core.List.{List, [], _∷_}
 use lib.IntN.{pos, negsuc}
 use Rattle.base.specs.Text.{ascii, digit, allDigits, numeral, valueAfter}
+use Rattle.base.specs.declared.edition.Edition.{Edition}
+use Rattle.base.specs.declared.edition.Edition.the-variants.{Rust, Page}
 use Rattle.text.specs.Line.{lineLength}
 use Rattle.text.specs.Range.{within}
 use Rattle.text.specs.Utf8.{scalar, scalars, encode, encodes}
 use Rattle.text.specs.White.{whiteSpace, trimStart}
 use Rattle.text.specs.Number.{inRange, ranged, signed, parsed}
-use Rattle.text.specs.Input.{charOf, intOf, pushOrSkip}
+use Rattle.text.specs.Input.{charOf, intOf, pushOrSkip, wholeLine, charNext}
 use Rattle.text.specs.Reading.{back, rest, chars, same, valid, takeOf}
+use Rattle.text.specs.declared.input.Taken.{Taken}
 use Rattle.text.specs.declared.input.Taken.the-variants.{Push, Skip, BadInput}
 use Rattle.text.specs.declared.number.Number.the-variants.{Value, Skipped}
 use Rattle.text.specs.declared.number.Reason.the-variants.{Ended, Blank, NotNumber, OutOfRange}
@@ -87,20 +91,66 @@ nothing : (intOf (0x20 ∷ 0x3000 ∷ 13 ∷ 10 ∷ []) ≡ Skipped Blank) × (i
 unfolding encodes whiteSpace within trimStart parsed intOf
 nothing = (refl, refl)
 
+-- what IntIn takes of the input at a place, and CharIn in an edition
+abbrev intIn : List ℕ → ℕ → Taken
+intIn s at = takeOf intOf wholeLine s at
+
+abbrev charIn : Edition → List ℕ → ℕ → Taken
+charIn e s at = takeOf charOf (charNext e) s at
+
 -- ` -12`, newline, `7`: the line is taken and -12 pushed. A line with a lone continuation byte is refused
-taken : takeOf intOf (0x20 ∷ 0x2D ∷ 0x31 ∷ 0x32 ∷ 10 ∷ 0x37 ∷ []) 0 ≡ Push (negsuc 11) 5
+taken : intIn (0x20 ∷ 0x2D ∷ 0x31 ∷ 0x32 ∷ 10 ∷ 0x37 ∷ []) 0 ≡ Push (negsuc 11) 5
 unfolding scalar scalars encode encodes whiteSpace within trimStart digit allDigits numeral valueAfter inRange ranged signed parsed intOf lineLength back rest chars same valid pushOrSkip takeOf
 taken = refl
 
-refused : takeOf intOf (0x31 ∷ 0x80 ∷ 10 ∷ []) 0 ≡ BadInput
+refused : intIn (0x31 ∷ 0x80 ∷ 10 ∷ []) 0 ≡ BadInput
 unfolding scalar scalars encode encodes within lineLength back rest chars same valid pushOrSkip takeOf
 refused = refl
 
--- CharIn pushes the newline of an empty line, and is skipped at the end of the input
-empty : takeOf charOf (10 ∷ []) 0 ≡ Push (pos 10) 1
-unfolding scalar scalars encode encodes within lineLength back rest chars same valid pushOrSkip takeOf charOf
-empty = refl
+-- CharIn pushes the newline of an empty line, and is skipped at the end of the input, in both editions
+empty : (charIn Rust (10 ∷ []) 0 ≡ Push (pos 10) 1) × (charIn Page (10 ∷ []) 0 ≡ Push (pos 10) 1)
+unfolding scalar scalars encode encodes within lineLength back rest chars same valid pushOrSkip takeOf charOf charNext
+empty = (refl, refl)
 
-at-end : takeOf charOf (10 ∷ []) 1 ≡ Skip 1 Ended
-unfolding scalars encodes lineLength chars same valid pushOrSkip takeOf charOf
-at-end = refl
+at-end : (charIn Rust (10 ∷ []) 1 ≡ Skip 1 Ended) × (charIn Page (10 ∷ []) 1 ≡ Skip 1 Ended)
+unfolding scalars encodes lineLength chars same valid pushOrSkip takeOf charOf charNext
+at-end = (refl, refl)
+
+-- `ab`, newline, `cd`, newline: two CharIn take two lines in edition 1, two characters of the first line in edition 2
+two-lines : (charIn Rust (ascii "ab\ncd\n") 0 ≡ Push (pos 97) 3) × (charIn Rust (ascii "ab\ncd\n") 3 ≡ Push (pos 99) 6)
+unfolding scalar scalars encode encodes within lineLength back rest chars same valid pushOrSkip takeOf charOf charNext
+two-lines = (refl, refl)
+
+two-chars : (charIn Page (ascii "ab\ncd\n") 0 ≡ Push (pos 97) 1) × (charIn Page (ascii "ab\ncd\n") 1 ≡ Push (pos 98) 2)
+unfolding scalar scalars encode encodes within lineLength back rest chars same valid pushOrSkip takeOf charOf charNext
+two-chars = (refl, refl)
+
+-- a carriage return and a newline are two characters
+return-newline : (charIn Page (13 ∷ 10 ∷ []) 0 ≡ Push (pos 13) 1) × (charIn Page (13 ∷ 10 ∷ []) 1 ≡ Push (pos 10) 2)
+unfolding scalar scalars encode encodes within lineLength back rest chars same valid pushOrSkip takeOf charOf charNext
+return-newline = (refl, refl)
+
+-- after CharIn in edition 2: IntIn takes what is left of the line, and where that is the newline alone it is skipped
+left-number : intIn (ascii "a12\n3") 1 ≡ Push (pos 12) 4
+unfolding scalar scalars encode encodes whiteSpace within trimStart digit allDigits numeral valueAfter inRange ranged signed parsed intOf lineLength back rest chars same valid pushOrSkip takeOf
+left-number = refl
+
+left-blank : intIn (ascii "5\n6\n") 1 ≡ Skip 2 Blank
+unfolding scalar scalars encode encodes whiteSpace within trimStart parsed intOf lineLength back rest chars same valid pushOrSkip takeOf
+left-blank = refl
+
+-- `a`, a byte that is no UTF-8, newline: CharIn is refused for what it would leave
+refused-left : charIn Page (0x61 ∷ 0xFF ∷ 10 ∷ []) 0 ≡ BadInput
+unfolding scalar scalars encode encodes within lineLength back rest chars same valid pushOrSkip takeOf
+refused-left = refl
+
+-- `a`, newline, a byte that is no UTF-8: the line before it is read to its newline
+abbrev bad-second : List ℕ
+bad-second = 0x61 ∷ 10 ∷ 0xFF ∷ []
+
+refused-second : (charIn Page bad-second 0 ≡ Push (pos 97) 1)
+    × (charIn Page bad-second 1 ≡ Push (pos 10) 2)
+    × (charIn Page bad-second 2 ≡ BadInput)
+    × (intIn bad-second 1 ≡ Skip 2 Blank)
+unfolding scalar scalars encode encodes whiteSpace within trimStart parsed intOf lineLength back rest chars same valid pushOrSkip takeOf charOf charNext
+refused-second = (refl, refl, refl, refl)

@@ -13,5 +13,6 @@ pub mod ReadingLaws
 pub mod Encoding
 pub mod Only
 pub mod Meaning
+pub mod OneChar
 pub mod SameAsBefore
 pub mod Examples

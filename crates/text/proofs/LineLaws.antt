@@ -2,15 +2,18 @@
 --     line-none, line-here, line-more      by the byte at a place
 --     line-some                            a line that begins within the input has a byte
 --     line-within, line-part               a line that begins within the input ends within it, and is a part of it
+--     line-size                            a line has as many bytes as it is long
+--     line-rest                            from a place within a line, the line is the rest of it
 -- Assumes nothing.
-use Prim.Native.Nat.{ℕ, suc, _+_, _-_, _<_, _≤_}
-use mathlib.Core.Path.{_≡_, ap}
+use Prim.Native.Nat.{ℕ, zero, suc, _+_, _-_, _<_, _≤_}
+use mathlib.Core.Path.{_≡_, refl, ap}
 use mathlib.Core.Bool.{Bool, true, false, cond}
 use mathlib.Core.List.{List, [], _∷_}
 use native.Mathlib.Omega.{arith}
 use borrow.Author.Tests.{eq-eqb, ne-eqb}
 use lib.Dec.{eqb}
 use lib.ListN.{length, getD, take, drop, length-take, length-drop, drop-of-length-le}
+use lib.Seq.{length-take-le}
 use Rattle.text.specs.Line.{lineLength, lineAt, lineEnd}
 use Rattle.text.proofs.Parts.{from1}
 
@@ -58,3 +61,20 @@ pub line-part : (s : List ℕ) (at e : ℕ) → e ≡ lineEnd s at → take (e -
 line-part s at e is =
     let n : e - at ≡ lineLength (drop at s) = omega arith in
     ap (λ (k : ℕ). take k (drop at s)) n
+
+pub line-size : (s : List ℕ) (at : ℕ) → length (lineAt s at) ≡ lineLength (drop at s)
+line-size s at = length-take-le (lineLength (drop at s)) (drop at s) (line-le (drop at s))
+
+pub line-rest : (n : ℕ) (l : List ℕ) → n < lineLength l → take (lineLength (drop n l)) (drop n l) ≡ drop n (take (lineLength l) l)
+unfolding lineLength
+line-rest zero l h = refl
+line-rest (suc n) [] h = absurd (omega arith)
+line-rest (suc n) (b ∷ bs) h = go (eqb b 10) h (line-rest n bs)
+  where
+    Rest : List ℕ → Type 0
+    Rest l = take (lineLength (drop n bs)) (drop n bs) ≡ l
+
+    go : (t : Bool) → suc n < cond t 1 (1 + lineLength bs) → (n < lineLength bs → Rest (drop n (take (lineLength bs) bs)))
+        → Rest (drop (suc n) (take (cond t 1 (1 + lineLength bs)) (b ∷ bs)))
+    go true k on = absurd (omega arith)
+    go false k on = let e : 1 + lineLength bs ≡ suc (lineLength bs) = omega arith in rw e (on (omega arith))

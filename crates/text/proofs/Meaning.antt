@@ -23,7 +23,7 @@ use Rattle.text.specs.Line.{lineAt, lineEnd}
 use Rattle.text.specs.Utf8.{encodes, Utf8}
 use Rattle.text.specs.White.{trimStart}
 use Rattle.text.specs.Number.{inRange, ranged, signed, opposite, parsed}
-use Rattle.text.specs.Input.{remains, intOf, pushOrSkip, Takes, reads, bad}
+use Rattle.text.specs.Input.{remains, intOf, pushOrSkip, wholeLine, Takes, reads, bad}
 use Rattle.text.specs.Reading.{takeOf}
 use Rattle.text.specs.Means.{Says, bare, plus, minus, Means}
 use Rattle.text.specs.declared.number.Number.{Number}
@@ -175,10 +175,10 @@ nothing-left s at cs u = (past, none)
     none : length s ≤ at → cs ≡ []
     none h = utf8-unique (lineAt s at) cs [] u (utf8-none (lineAt s at) (rw (line-none s at h)))
 
-pub skip-means : (s : List ℕ) (at n : ℕ) (why : Reason) → takeOf intOf s at ≡ Skip n why
+pub skip-means : (s : List ℕ) (at n : ℕ) (why : Reason) → takeOf intOf wholeLine s at ≡ Skip n why
     → (cs : List ℕ) × Utf8 (lineAt s at) cs × Means cs (Skipped why)
 unfolding pushOrSkip
-skip-means s at n why e = go (takes-of intOf s at)
+skip-means s at n why e = go (takes-of intOf wholeLine s at)
   where
     by-number : (cs : List ℕ) (a : Number) → intOf cs ≡ a → Skip n why ≡ pushOrSkip a (lineEnd s at) → Means cs (Skipped why)
     by-number cs (Value v) q h = clash cc
@@ -186,6 +186,6 @@ skip-means s at n why e = go (takes-of intOf s at)
         let z : w ≡ why = cc in
         subst (λ (x : Reason). Means cs (Skipped x)) z (subst (Means cs) q (means cs))
 
-    go : Takes intOf s at (takeOf intOf s at) → (cs : List ℕ) × Utf8 (lineAt s at) cs × Means cs (Skipped why)
+    go : Takes intOf wholeLine s at (takeOf intOf wholeLine s at) → (cs : List ℕ) × Utf8 (lineAt s at) cs × Means cs (Skipped why)
     go (reads cs u h) = (cs, u, by-number cs (intOf cs) refl (sym e ∙ h))
     go (bad f h) = clash cc

@@ -10,10 +10,10 @@ use mathlib.Core.Path.{_≡_, sym, ap, _∙_}
 use mathlib.Core.List.{List, List-discrete}
 use native.Mathlib.Decide.{ℕ-discrete}
 use native.Mathlib.Omega.{arith}
-use Rattle.text.specs.Line.{lineAt, lineEnd}
+use Rattle.text.specs.Line.{lineAt}
 use Rattle.text.specs.Utf8.{Valid, Reads, char, bad, past}
 use Rattle.text.specs.Trim.{Trims}
-use Rattle.text.specs.Input.{pushOrSkip, Takes, reads, bad as bad-line}
+use Rattle.text.specs.Input.{pushOrSkip, Next, Takes, reads, bad as bad-line}
 use Rattle.text.specs.declared.utf8.Decoded.{Decoded}
 use Rattle.text.specs.declared.number.Number.{Number}
 use Rattle.text.specs.declared.input.Taken.{Taken}
@@ -47,10 +47,10 @@ trims-only s t t′ p q = go (List-discrete ℕ-discrete t t′)
     go (no f) = absurd (f (p .other (λ v. f (valid v)) ∙ sym (q .other (λ v. f (valid v)))))
 
 -- an input instruction takes one thing
-module _ (f : List ℕ → Number) (s : List ℕ) (at : ℕ) (x y : Taken) where
-  pub takes-only : Takes f s at x → Takes f s at y → x ≡ y
+module _ (f : List ℕ → Number) (next : Next) (s : List ℕ) (at : ℕ) (x y : Taken) where
+  pub takes-only : Takes f next s at x → Takes f next s at y → x ≡ y
   takes-only (reads cs u e) (reads ds v g) =
-      e ∙ ap (λ (l : List ℕ). pushOrSkip (f l) (lineEnd s at)) (utf8-unique (lineAt s at) cs ds u v) ∙ sym g
+      e ∙ ap (λ (l : List ℕ). pushOrSkip (f l) (next s at l)) (utf8-unique (lineAt s at) cs ds u v) ∙ sym g
   takes-only (reads cs u e) (bad-line n g) = absurd (n (cs, u))
   takes-only (bad-line n e) (reads ds v g) = absurd (n (ds, v))
   takes-only (bad-line n e) (bad-line m g) = e ∙ sym g

@@ -14,8 +14,8 @@ use lib.Dec.{eqb}
 use lib.ListN.{length, length-append}
 use Rattle.base.proofs.Tests.{and-both}
 use Rattle.text.specs.Utf8.{scalars, encode, encodes, Utf8}
-use Rattle.text.specs.Line.{lineAt, lineEnd}
-use Rattle.text.specs.Input.{pushOrSkip, Takes, reads, bad}
+use Rattle.text.specs.Line.{lineAt}
+use Rattle.text.specs.Input.{pushOrSkip, Next, Takes, reads, bad}
 use Rattle.text.specs.Reading.{back, rest, chars, reading, same, valid, takeOf}
 use Rattle.text.specs.declared.number.Number.{Number}
 use Rattle.text.specs.declared.input.Taken.{Taken}
@@ -76,14 +76,15 @@ utf8-valid s cs u =
     rw (e, u .scalars) q
 
 -- ---- what an instruction takes
-module _ (f : List ℕ → Number) (s : List ℕ) (at : ℕ) where
-  takes-by : (t : Bool) → valid (lineAt s at) ≡ t → Takes f s at (cond t (pushOrSkip (f (reading (lineAt s at))) (lineEnd s at)) BadInput)
+module _ (f : List ℕ → Number) (next : Next) (s : List ℕ) (at : ℕ) where
+  takes-by : (t : Bool) → valid (lineAt s at) ≡ t
+      → Takes f next s at (cond t (pushOrSkip (f (reading (lineAt s at))) (next s at (reading (lineAt s at)))) BadInput)
   takes-by true e = reads (reading (lineAt s at)) (valid-utf8 (lineAt s at) e) refl
   takes-by false e = bad (λ v. false≢true (sym e ∙ utf8-valid (lineAt s at) (v .0) (v .1))) refl
 
-  pub takes-of : Takes f s at (takeOf f s at)
+  pub takes-of : Takes f next s at (takeOf f next s at)
   unfolding takeOf
   takes-of = takes-by (valid (lineAt s at)) refl
 
-  pub takes-is : (r : Taken) → Takes f s at r → r ≡ takeOf f s at
-  takes-is r p = takes-only f s at r (takeOf f s at) p takes-of
+  pub takes-is : (r : Taken) → Takes f next s at r → r ≡ takeOf f next s at
+  takes-is r p = takes-only f next s at r (takeOf f next s at) p takes-of

@@ -1,8 +1,9 @@
 -- The reasons to skip a line (rule 10.8) change nothing else. The earlier definition, which tells no reason, stands here, and what
 -- an input instruction takes still meets it, the reason left out: the same lines give the same numbers (rule 10.3), are skipped and
--- stop the run with BadInput, and the same bytes are consumed.
+-- stop the run with BadInput, and the same bytes are consumed. Nor does edition 2 change edition 1 (rule 16.4): there CharIn still
+-- takes the whole line.
 --     same-as-before         IntIn
---     same-as-before-char    CharIn
+--     same-as-before-char    CharIn in edition 1
 -- Assumes nothing.
 use Prim.Native.Nat.{ℕ, _-_, _^_, _<_, _≤_}
 use mathlib.Core.Path.{_≡_, refl, ap, _∙_}
@@ -12,6 +13,7 @@ use borrow.Author.Tests.{le-leb, lt-leb}
 use lib.Dec.{leb, eqb}
 use lib.IntN.{ℤ, pos, negℤ}
 use Rattle.base.specs.Text.{numeral, valueAfter}
+use Rattle.base.specs.declared.edition.Edition.the-variants.{Rust}
 use Rattle.base.proofs.Tests.{by-size}
 use Rattle.text.specs.Line.{lineAt, lineEnd}
 use Rattle.text.specs.Utf8.{encodes, Utf8, Valid}
@@ -141,16 +143,17 @@ unfolding new.charOf charOf gives
 same-char [] = refl
 same-char (c ∷ cs) = refl
 
--- where a line gives the same, the same is taken
+-- where a line gives the same, and reading goes on after it, the same is taken
 module _ (f : List ℕ → Number) (g : List ℕ → Was) (same : (cs : List ℕ) → gives (f cs) ≡ g cs) where
-  same-takes : (s : List ℕ) (at : ℕ) (t : Taken) → new.Takes f s at t → Takes g s at (forget t)
+  same-takes : (s : List ℕ) (at : ℕ) (t : Taken) → new.Takes f new.wholeLine s at t → Takes g s at (forget t)
   unfolding forget
   same-takes s at t (new.reads cs u e) =
       reads cs u (ap forget e ∙ forget-push (f cs) (lineEnd s at) ∙ ap (λ (a : Was). pushOrSkip a (lineEnd s at)) (same cs))
   same-takes s at t (new.bad h e) = bad h (ap forget e)
 
-pub same-as-before : (s : List ℕ) (at : ℕ) (t : Taken) → new.Takes new.intOf s at t → Takes intOf s at (forget t)
+pub same-as-before : (s : List ℕ) (at : ℕ) (t : Taken) → new.Takes new.intOf new.wholeLine s at t → Takes intOf s at (forget t)
 same-as-before = same-takes new.intOf intOf same-int
 
-pub same-as-before-char : (s : List ℕ) (at : ℕ) (t : Taken) → new.Takes new.charOf s at t → Takes charOf s at (forget t)
+pub same-as-before-char : (s : List ℕ) (at : ℕ) (t : Taken) → new.Takes new.charOf (new.charNext Rust) s at t → Takes charOf s at (forget t)
+unfolding new.charNext
 same-as-before-char = same-takes new.charOf charOf same-char

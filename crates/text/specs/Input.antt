@@ -1,8 +1,11 @@
--- What an input instruction takes of the input (rules 10.1 to 10.4, 10.8). Assumes nothing.
-use Prim.Native.Nat.{ℕ}
+-- What an input instruction takes of the input (rules 10.1 to 10.4, 10.8, 16.4). Assumes nothing.
+use Prim.Native.Nat.{ℕ, _+_}
 use mathlib.Core.Path.{_≡_}
 use mathlib.Core.List.{List, [], _∷_}
 use lib.IntN.{pos}
+use lib.ListN.{length, take}
+use Rattle.base.specs.Edition.{byEdition}
+use Rattle.base.specs.declared.edition.Edition.{Edition}
 use Rattle.text.specs.Line.{lineAt, lineEnd}
 use Rattle.text.specs.Utf8.{encodes, Utf8, Valid}
 use Rattle.text.specs.White.{trimmed}
@@ -27,13 +30,27 @@ unfoldable pub intOf : List ℕ → Number
 intOf [] = Skipped Ended
 intOf (c ∷ cs) = parsed (remains (c ∷ cs))
 
--- what a line gives is pushed, or the step is skipped (rule 10.4); with the place after the line
+-- what a line gives is pushed, or the step is skipped (rule 10.4); with the place where reading goes on
 unfoldable pub pushOrSkip : Number → ℕ → Taken
 pushOrSkip (Value v) n = Push v n
 pushOrSkip (Skipped why) n = Skip n why
 
--- An instruction that reads f of a line takes the whole line (rule 10.1); one that is not UTF-8 is BadInput (rule 11.6). The
+-- where reading goes on: from the input, the place of a line and the line's characters
+abbrev pub Next : Type 0
+Next = List ℕ → ℕ → List ℕ → ℕ
+
+-- IntIn's: after the whole line, or all that is left of it, with its newline (rule 10.1)
+abbrev pub wholeLine : Next
+wholeLine s at cs = lineEnd s at
+
+-- CharIn's: after the whole line (rule 10.1); in edition 2 after the first character alone, and the rest of the line is left for
+-- the next read (rule 16.4). The choice by edition stands here and nowhere else
+unfoldable pub charNext : Edition → Next
+charNext e s at cs = byEdition e (wholeLine s at cs) (at + length (encodes (take 1 cs)))
+
+-- An instruction reads f of a line, or of what is left of one, and goes on where `next` says. All that is left of the line is
+-- judged, however little of it is taken, and nothing after it: where it is not UTF-8 that is BadInput (rules 11.6, 16.4). The
 -- number of that stop is `statusOf` of machine's specs/Machine.antt.
-pub data Takes (f : List ℕ → Number) (s : List ℕ) (at : ℕ) (r : Taken) : Type 0 where
-  reads : (cs : List ℕ) → Utf8 (lineAt s at) cs → r ≡ pushOrSkip (f cs) (lineEnd s at) → Takes f s at r
-  bad : (Valid (lineAt s at) → ⊥) → r ≡ BadInput → Takes f s at r
+pub data Takes (f : List ℕ → Number) (next : Next) (s : List ℕ) (at : ℕ) (r : Taken) : Type 0 where
+  reads : (cs : List ℕ) → Utf8 (lineAt s at) cs → r ≡ pushOrSkip (f cs) (next s at cs) → Takes f next s at r
+  bad : (Valid (lineAt s at) → ⊥) → r ≡ BadInput → Takes f next s at r

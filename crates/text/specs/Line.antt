@@ -10,7 +10,8 @@ unfoldable pub lineLength : List ℕ → ℕ
 lineLength [] = 0
 lineLength (b ∷ bs) = cond (eqb b 10) 1 (1 + lineLength bs)
 
--- the line at a place of the input, and the place after it. At the end of the input the line is empty
+-- the line at a place of the input, or what is left of it where the place is within one, and the place after it. At the end of
+-- the input the line is empty
 abbrev pub lineAt : List ℕ → ℕ → List ℕ
 lineAt s at = take (lineLength (drop at s)) (drop at s)
 

@@ -5,9 +5,9 @@ use mathlib.Core.Bool.{Bool, true, false, _&&_, cond}
 use mathlib.Core.List.{List, [], _∷_}
 use lib.Dec.{ltb, eqb}
 use lib.ListN.{length, getD, drop}
-use Rattle.text.specs.Line.{lineAt, lineEnd}
+use Rattle.text.specs.Line.{lineAt}
 use Rattle.text.specs.Utf8.{scalars, encodes}
-use Rattle.text.specs.Input.{pushOrSkip}
+use Rattle.text.specs.Input.{pushOrSkip, Next}
 use Rattle.text.specs.declared.number.Number.{Number}
 use Rattle.text.specs.declared.input.Taken.{Taken}
 use Rattle.text.specs.declared.input.Taken.the-variants.{BadInput}
@@ -45,6 +45,7 @@ same (a ∷ l) (b ∷ bs) = eqb a b && same l bs
 unfoldable pub valid : List ℕ → Bool
 valid s = scalars (reading s) && same s (encodes (reading s))
 
--- what an instruction that reads f of a line takes
-unfoldable pub takeOf : (List ℕ → Number) → List ℕ → ℕ → Taken
-takeOf f s at = cond (valid (lineAt s at)) (pushOrSkip (f (reading (lineAt s at))) (lineEnd s at)) BadInput
+-- what an instruction takes that reads f of a line and goes on where `next` says
+unfoldable pub takeOf : (List ℕ → Number) → Next → List ℕ → ℕ → Taken
+takeOf f next s at =
+    cond (valid (lineAt s at)) (pushOrSkip (f (reading (lineAt s at))) (next s at (reading (lineAt s at)))) BadInput

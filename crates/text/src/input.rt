@@ -1,4 +1,4 @@
-// What an input instruction takes: a line, with its newline (rule 10.1).
+// What an input instruction takes: a line, with its newline (rule 10.1); of CharIn in edition 2, one character (rule 16.4).
 use crate::number::Number;
 use crate::number::Reason;
 use crate::number::parse;
@@ -6,11 +6,13 @@ use crate::utf8::Decoded;
 use crate::utf8::decode;
 use crate::utf8::is_utf8;
 use crate::white::trim;
+use base::edition::Edition;
 ghost use mathlib.Core.Path.{_≡_};
-ghost use Rattle.text.specs.Input.{Takes, intOf, charOf};
+ghost use Rattle.base.specs.Edition.{byEdition};
+ghost use Rattle.text.specs.Input.{Takes, intOf, charOf, wholeLine, charNext};
 ghost use Rattle.text.specs.Line.{lineEnd};
 
-// A value to push, or why there is none, with the place after the line; or a line that is not UTF-8.
+// A value to push, or why there is none, with the place where reading goes on; or a line that is not UTF-8.
 pub enum Taken {
     Push { value: i64, next: usize },
     Skip { next: usize, why: Reason },
@@ -34,7 +36,7 @@ pub fn line_end(input: &[u8], at: usize) -> usize
 // IntIn: the line as a number, without the white space at its ends (rule 10.3), or why it is none (rule 10.8). At the end of
 // the input the step is skipped (rule 10.4).
 pub fn int_in(input: &[u8], at: usize) -> Taken
-    ensures { λ r. ⌜ Takes intOf (now (input .entry)) at r ⌝ }
+    ensures { λ r. ⌜ Takes intOf wholeLine (now (input .entry)) at r ⌝ }
 {
     if input.len() <= at {
         return Taken::Skip {
@@ -54,9 +56,19 @@ pub fn int_in(input: &[u8], at: usize) -> Taken
     }
 }
 
+// Where reading goes on after a character: at the end of its line, or in edition 2 at the place next to it (rule 16.4).
+fn after_char(edition: Edition, end: usize, next: usize) -> usize
+    ensures { λ r. ⌜ r ≡ byEdition edition end next ⌝ }
+{
+    match edition {
+        Edition::Rust => end,
+        Edition::Page => next,
+    }
+}
+
 // CharIn: the line's first character, which is the newline where it has no other (rule 10.2).
-pub fn char_in(input: &[u8], at: usize) -> Taken
-    ensures { λ r. ⌜ Takes charOf (now (input .entry)) at r ⌝ }
+pub fn char_in(input: &[u8], at: usize, edition: Edition) -> Taken
+    ensures { λ r. ⌜ Takes charOf (charNext edition) (now (input .entry)) at r ⌝ }
 {
     if input.len() <= at {
         return Taken::Skip {
@@ -65,19 +77,19 @@ pub fn char_in(input: &[u8], at: usize) -> Taken
         };
     }
     let end = line_end(input, at);
-    let line = &input[at..end];
-    if is_utf8(line) {
-        let Decoded::Char { cp, next: _ } = decode(line, 0) else {
+    // all of it is judged, in edition 2 too, where one character is taken
+    let left = &input[at..end];
+    if is_utf8(left) {
+        let Decoded::Char { cp, next: size } = decode(left, 0) else {
             // never reached: a line has a character
             return Taken::Skip {
                 next: end,
                 why: Reason::Ended,
             };
         };
-        Taken::Push {
-            value: cp as i64,
-            next: end,
-        }
+        let value = cp as i64;
+        let next = after_char(edition, end, at + size);
+        Taken::Push { value, next }
     } else {
         Taken::BadInput
     }

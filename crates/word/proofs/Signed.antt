@@ -5,13 +5,13 @@ use mathlib.Core.Bool.{Bool, true, false, cond}
 use Prim.Native.Nat.{ℕ, zero, suc, _-_, _^_, _<_}
 use native.Mathlib.Omega.{arith}
 use borrow.Author.Tests.{ltb-true}
-use lib.Dec.{T, ltb}
+use lib.Dec.{T, ltb, eqb·suc-zero}
 use lib.IntN.{ℤ, pos, negsuc, natAbs}
 use lib.Signed.{mag, ltZ, nonNeg}
 use mir.Syntax.{w64}
 use mir.Val.{SFits, Fits, ofZ, toZ, sel}
 use mir.Facts.{toZ-ofZ, toZ-pos}
-use Rattle.word.specs.Word.{signed64}
+use Rattle.word.specs.Word.{signed64, isZero}
 
 -- x is below 0, as a test `x < 0` of the code says it
 abbrev pub Below : ℤ → Bool → Type 0
@@ -87,6 +87,13 @@ pub nonzero : (x : ℤ) → SFits w64 x → (x ≡ pos 0 → ⊥) → 0 < ofZ w6
 nonzero (pos zero) f h = absurd (h refl)
 nonzero (pos (suc n)) f h = omega arith
 nonzero (negsuc n) f h = omega (arith, f .sfits)
+
+-- a number that is not 0, as the definitions test it
+pub is-not-zero : (a : ℤ) → (a ≡ pos 0 → ⊥) → isZero a ≡ false
+unfolding isZero
+is-not-zero (pos zero) h = absurd (h refl)
+is-not-zero (pos (suc n)) h = eqb·suc-zero n
+is-not-zero (negsuc n) h = refl
 
 -- a number in range is read back from its bits. The number is explicit: `_` is not found under `mag`
 pub back : (z : ℤ) → mag z < 2 ^ 63 → toZ w64 (ofZ w64 z) ≡ z

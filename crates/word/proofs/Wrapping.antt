@@ -112,7 +112,7 @@ wrap-fits (negsuc n) f =
 
 -- ---- the quotient
 
-mag-neg : (r : ℕ) → r < 2 ^ 63 + 1 → mag (negℤ (pos r)) < 2 ^ 63
+pub mag-neg : (r : ℕ) → r < 2 ^ 63 + 1 → mag (negℤ (pos r)) < 2 ^ 63
 mag-neg zero h = omega arith
 mag-neg (suc r) h = omega arith
 

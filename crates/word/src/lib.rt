@@ -1,9 +1,11 @@
-// The machine's numbers: i64 as the Rust release build has it, with contracts over the integers.
+// The machine's numbers: i64 as the Rust release build has it, with contracts over the integers. Mod alone goes by the edition.
 ghost use mathlib.Core.Path.{_≡_};
 ghost use Prim.Native.Nat.{_+_, _*_, _-_, _%_, _^_, _<_, _≤_};
 ghost use lib.IntN.{pos, negsuc, _+ℤ_, _-ℤ_, _*ℤ_, natAbs};
 ghost use lib.Signed.{quotZ, remZ};
-ghost use Rattle.word.specs.Word.{residue, signed64, wrap, values, quotient, remainder};
+ghost use Rattle.word.specs.Word.{residue, signed64, wrap, values, quotient};
+ghost use Rattle.word.specs.Word.{floorQuotient, rustRemainder, pageRemainder, remainder};
+use base::edition::Edition;
 
 // What a division gives: a value, or nothing where it cannot be done.
 pub enum Divided {
@@ -95,12 +97,12 @@ pub fn abs(a: i64) -> u64
     a as u64
 }
 
-// The remainder of b by m, with b's sign.
-fn rem(b: i64, m: u64) -> i64
-    requires { ⌜ (0 < m) × (m < 2 ^ 63) ⌝ }
-    ensures { λ r. ⌜ r ≡ remZ b (pos m) ⌝ }
+// The remainder of b by a, with b's sign. Not by -1, where the machine's division overflows at -2^63.
+fn rem(b: i64, a: i64) -> i64
+    requires { ⌜ (a ≡ pos 0 → ⊥) × (a ≡ negsuc 0 → ⊥) ⌝ }
+    ensures { λ r. ⌜ r ≡ remZ b a ⌝ }
 {
-    b % (m as i64)
+    b % a
 }
 
 // b modulo m, never negative.
@@ -108,16 +110,16 @@ pub fn residue(b: i64, m: u64) -> u64
     requires { ⌜ (0 < m) × (m < 2 ^ 63) ⌝ }
     ensures { λ r. ⌜ r ≡ residue b m ⌝ }
 {
-    let r = rem(b, m);
+    let r = rem(b, m as i64);
     if r < 0 {
         return m - 1 - ((!r) as u64);
     }
     r as u64
 }
 
-// Mod: b modulo |a|, never negative; by 0 nothing, and by -2^63 nothing, since |-2^63| wraps to -2^63 in the Rust.
-pub fn modulo(b: i64, a: i64) -> Divided
-    ensures { λ r. ⌜ values r ≡ remainder b a ⌝ }
+// b modulo |a|, never negative; by 0 nothing, and by -2^63 nothing, since |-2^63| wraps to -2^63 in the Rust.
+fn modulo_rust(b: i64, a: i64) -> Divided
+    ensures { λ r. ⌜ values r ≡ rustRemainder b a ⌝ }
 {
     let m = abs(a);
     if m == 0 {
@@ -127,6 +129,48 @@ pub fn modulo(b: i64, a: i64) -> Divided
         return Divided::Nothing;
     }
     Divided::Value(residue(b, m) as i64)
+}
+
+// b - a × floor(b / a): b's remainder by a, and one a more where that lies on the other side of 0 than a.
+fn floor_rem(b: i64, a: i64) -> i64
+    requires { ⌜ (a ≡ pos 0 → ⊥) × (a ≡ negsuc 0 → ⊥) ⌝ }
+    ensures { λ r. ⌜ r ≡ b -ℤ a *ℤ floorQuotient b a ⌝ }
+{
+    let r = rem(b, a);
+    if a < 0 {
+        if r > 0 {
+            return r + a;
+        }
+        return r;
+    }
+    if r < 0 {
+        return r + a;
+    }
+    r
+}
+
+// What b / a rounded down leaves of b: 0, or of a's sign and smaller than a; by 0 nothing. By -1 it is 0, found with no division,
+// which would overflow at -2^63 (rule 16.3).
+fn modulo_page(b: i64, a: i64) -> Divided
+    ensures { λ r. ⌜ values r ≡ pageRemainder b a ⌝ }
+{
+    if a == 0 {
+        return Divided::Nothing;
+    }
+    if a == -1 {
+        return Divided::Value(0);
+    }
+    Divided::Value(floor_rem(b, a))
+}
+
+// Mod: the remainder of b by a, as the edition has it.
+pub fn modulo(b: i64, a: i64, edition: Edition) -> Divided
+    ensures { λ r. ⌜ values r ≡ remainder edition b a ⌝ }
+{
+    match edition {
+        Edition::Rust => modulo_rust(b, a),
+        Edition::Page => modulo_page(b, a),
+    }
 }
 
 // n modulo 4, never negative: quarter turns.

@@ -22,7 +22,7 @@ second s = getD (now (s .args .stack)) (s .args .depth - 2) (pos 0)
 
 -- what `combine` gave is what they combine to
 abbrev Combined : tie.Start → Divided → Type 0
-Combined s r = combined (s .args .op) (second s) (top s) ≡ values r
+Combined s r = combined (s .args .edition) (s .args .op) (second s) (top s) ≡ values r
 
 combined-is : (c : tie.After-combine) → Combined (c .before .before .before .before) (c .combine .result)
 combined-is c =
@@ -32,7 +32,7 @@ combined-is c =
     sym (rw (a, b) at (c .combine .ensures))
 
 returns : tie.Need-returns
-returns c = few _ _ _ (c .if1 .taken) (c .before .pre)
+returns c = few _ _ _ _ (c .if1 .taken) (c .before .pre)
 
 sub-a : tie.Need-sub-a
 sub-a c = search needs
@@ -58,8 +58,8 @@ enum-known-v c = search needs
 enum-told : tie.Need-enum-told
 enum-told c = search needs
 
-pop-two-requires : tie.Need-pop-two-requires
-pop-two-requires c κs = search needs
+undo-requires : tie.Need-undo-requires
+undo-requires c κs = search needs
 
 same-length : tie.Need-same-length
 same-length c = search needs
@@ -67,8 +67,8 @@ same-length c = search needs
 returns-2 : tie.Need-returns-2
 returns-2 c =
     let k = c .before .before .before .before .before in
-    gone _ (k .before .before .before .if1 .left) (combined-is k ∙ ap values (c .before .before .before .enum-told .given .1))
-    (c .before .pop-two .ensures)
+    gone _ _ (k .before .before .before .if1 .left) (combined-is k ∙ ap values (c .before .before .before .enum-told .given .1))
+    (c .before .undo .ensures)
 
 replace-requires : tie.Need-replace-requires
 replace-requires c κs = search needs
@@ -81,7 +81,7 @@ returns-3 c =
     let k = c .before .before .before .before .before .before in
     let v = c .before .before .before .before .v .given in
     let w = back (v .0 .0) (c .before .before .before .known-told .given .0 .1) in
-    left _ (k .before .before .before .if1 .left) (combined-is k ∙ ap values (v .1)) (rw w at (c .before .replace .ensures))
+    left _ _ (k .before .before .before .if1 .left) (combined-is k ∙ ap values (v .1)) (rw w at (c .before .replace .ensures))
 
 pub pair-spec : {M : Type 1} → statement M
 pair-spec =
@@ -96,7 +96,7 @@ pair-spec =
     combine-requires
     enum-known-v
     enum-told
-    pop-two-requires
+    undo-requires
     same-length
     returns-2
     replace-requires

@@ -1,15 +1,13 @@
 -- `word::div` meets its contract. Assumes nothing.
 use mathlib.Core.Path.{_≡_, refl, sym, ap, _∙_}
 use mathlib.Core.List.{List, _∷_, []}
-use Prim.Native.Nat.{zero, suc}
-use lib.Dec.{eqb·suc-zero}
-use lib.IntN.{ℤ, pos, negsuc}
+use lib.IntN.{ℤ, pos}
 use lib.Signed.{quotZ}
 use mir.Syntax.{w64}
 use mir.Val.{ofZ}
 use mir.Facts.{toZ-ofZ, sfits-lit}
 use Rattle.word.specs.Word.{wrap, isZero}
-use Rattle.word.proofs.Signed.{back, same-bits}
+use Rattle.word.proofs.Signed.{back, same-bits, is-not-zero}
 use Rattle.word.specs.Word.{quotient}
 use Rattle.word.proofs.div.Statement.{statement}
 use Rattle.word.proofs.div.Tie as tie
@@ -19,10 +17,8 @@ unfolding quotient isZero
 zero-gone b a e = rw e refl
 
 kept : (b a : ℤ) {r : ℤ} → (a ≡ pos 0 → ⊥) → r ≡ wrap (quotZ b a) → _≡_ {A = List ℤ} (r ∷ []) (quotient b a)
-unfolding quotient isZero
-kept b (pos zero) h e = absurd (h refl)
-kept b (pos (suc n)) h e = rw (eqb·suc-zero n) (ap (λ (z : ℤ). z ∷ []) e)
-kept b (negsuc n) h e = ap (λ (z : ℤ). z ∷ []) e
+unfolding quotient
+kept b a h e = rw (is-not-zero a h) (ap (λ (z : ℤ). z ∷ []) e)
 
 returns : tie.Need-returns
 returns c = zero-gone (c .before .args .b) (c .before .args .a) (same-bits (c .before .fits .a) (sfits-lit tt) (c .if1 .taken))

@@ -1,24 +1,19 @@
--- `word::rem` meets its contract: m is above 0 and reads as itself, and the remainder is no larger than b. Assumes nothing.
-use borrow.Author.Needs.{needs}
-use lib.IntN.{pos, pos-ne-negsuc}
+-- `word::rem` meets its contract: a quotient by any number but 0 and -1 fits, and the remainder is no larger than b. Assumes nothing.
 use lib.Signed.{mag-rem}
-use mir.Syntax.{w64}
 use mir.ValLaws.{sfits-le}
-use mir.Facts.{toZ-ofZ, toZ-pos}
+use mir.Facts.{toZ-ofZ}
+use Rattle.word.proofs.Signed.{nonzero}
 use Rattle.word.proofs.Wrapping.{quot-fits}
 use Rattle.word.proofs.rem.Statement.{statement}
 use Rattle.word.proofs.rem.Tie as tie
 
-cast-result : tie.Need-cast-result
-cast-result c = search needs
-
 rem-result : tie.Need-rem-result
 rem-result c =
-    (c .pre .0, rw (toZ-ofZ (c .fits .b), toZ-pos w64 (c .pre .1)) (quot-fits _ _ (c .fits .b) (pos-ne-negsuc _ 0)))
+    (nonzero _ (c .fits .a) (c .pre .0), rw (toZ-ofZ (c .fits .b), toZ-ofZ (c .fits .a)) (quot-fits _ _ (c .fits .b) (c .pre .1)))
 
 returns : tie.Need-returns
 returns c =
-    rw (toZ-ofZ (c .fits .b), toZ-pos w64 (c .pre .1)) (toZ-ofZ (sfits-le (mag-rem (c .args .b) (pos (c .args .m))) (c .fits .b)))
+    rw (toZ-ofZ (c .fits .b), toZ-ofZ (c .fits .a)) (toZ-ofZ (sfits-le (mag-rem (c .args .b) (c .args .a)) (c .fits .b)))
 
 pub rem-spec : {M : Type 1} → statement M
-rem-spec = tie.close (tie.spec cast-result rem-result returns)
+rem-spec = tie.close (tie.spec rem-result returns)

@@ -1,11 +1,12 @@
 -- `word::residue` meets its contract: a remainder below 0 falls short of the residue by m. Assumes nothing.
-use mathlib.Core.Path.{_≡_}
-use Prim.Native.Nat.{ℕ, _-_, _≤_}
+use mathlib.Core.Path.{_≡_, ap}
+use Prim.Native.Nat.{ℕ, _-_, _<_, _≤_}
 use native.Mathlib.Omega.{arith}
 use borrow.Author.Needs.{needs, sfits-of}
-use lib.IntN.{ℤ}
+use lib.IntN.{ℤ, natAbs, pos-ne-negsuc}
 use lib.Signed.{mag}
-use mir.Facts.{toZ-ofZ}
+use mir.Syntax.{w64}
+use mir.Facts.{toZ-ofZ, toZ-pos}
 use Rattle.word.specs.Word.{residue}
 use Rattle.word.proofs.Signed.{Neg, neg, NonNeg, nonneg, isNeg, isNonNeg, casts-neg, casts-pos, cast-neg, cast-pos}
 use Rattle.word.proofs.Wrapping.{Rem, up, down, is-rem}
@@ -21,7 +22,8 @@ whole (nonneg n h) (up r e) = e
 
 is-rem-of : (c : tie.After-rem) → Rem (c .before .args .b) (c .before .args .m) (c .rem .result)
 is-rem-of c =
-    rw (c .rem .ensures, toZ-ofZ (c .before .fits .b)) (is-rem (c .before .args .b) (c .before .args .m) (c .before .pre .0))
+    let s = c .before in
+    rw (c .rem .ensures, toZ-ofZ (s .fits .b), toZ-pos w64 (s .pre .1)) (is-rem (s .args .b) (s .args .m) (s .pre .0))
 
 is-neg : (c : tie.Then1) → Neg (c .before .rem .result)
 is-neg c = isNeg _ (sfits-of (c .before .rem .ok)) (c .if1 .taken)
@@ -29,8 +31,15 @@ is-neg c = isNeg _ (sfits-of (c .before .rem .ok)) (c .if1 .taken)
 is-nonneg : (c : tie.Else1) → NonNeg (c .before .rem .result)
 is-nonneg c = isNonNeg _ (sfits-of (c .before .rem .ok)) (c .if1 .left)
 
+cast-rem : tie.Need-cast-rem
+cast-rem c = search needs
+
 rem-requires : tie.Need-rem-requires
-rem-requires c κs = search needs
+rem-requires c κs =
+    rw (toZ-pos w64 (c .pre .1)) ((λ e. apart (c .args .m) (c .pre .0) (ap natAbs e)), pos-ne-negsuc (c .args .m) 0)
+  where
+    apart : (m : ℕ) → 0 < m → m ≡ 0 → ⊥
+    apart m h e = omega arith
 
 sub-result : tie.Need-sub-result
 sub-result c = search needs
@@ -53,4 +62,4 @@ returns-2 c = rw (cast-pos (is-nonneg c)) (whole (is-nonneg c) (is-rem-of (c .be
 pub residue-spec : {M : Type 1} → statement M
 residue-spec =
     tie.close
-    (tie.spec rem-requires sub-result cast-result sub-result-2 returns cast-result-2 returns-2)
+    (tie.spec cast-rem rem-requires sub-result cast-result sub-result-2 returns cast-result-2 returns-2)

@@ -1,21 +1,20 @@
--- `text::input::char_in` meets its contract: at the end of the input, by a line that has a character, by one that has none, and by
--- one that is not UTF-8.
+-- `text::input::char_in` meets its contract: at the end of the input, by a line that has a character, and by one that is not UTF-8.
+-- Where reading goes on is `after_char`'s to choose: nothing here asks for the edition.
 -- Assumes nothing.
-use Prim.Native.Nat.{ℕ, _-_}
+use Prim.Native.Nat.{ℕ, _-_, _<_}
 use mathlib.Core.Path.{refl, sym, ap, _∙_}
 use mathlib.Core.List.{List}
 use native.Mathlib.Omega.{arith}
 use borrow.Author.Needs.{needs}
-use lib.ListN.{take, drop}
+use lib.ListN.{length, take, drop, length-take}
 use mir.Syntax.{w64}
 use mir.ValLaws.{toZ-pos}
-use Rattle.text.specs.Utf8.{Valid}
-use Rattle.text.specs.Input.{charOf}
+use Rattle.text.specs.Utf8.{Valid, IsChar}
+use Rattle.text.specs.Input.{charOf, charNext}
 use Rattle.text.specs.declared.number.Number.the-variants.{Value}
-use Rattle.text.specs.declared.number.Reason.the-variants.{Ended}
-use Rattle.text.proofs.ValidLaws.{is-char}
-use Rattle.text.proofs.LineLaws.{line-within}
-use Rattle.text.proofs.InputLaws.{take-none, take-bad, take-skip, take-push, char-of, no-char-of}
+use Rattle.text.proofs.ValidLaws.{is-char, no-char, read-within, bad-never}
+use Rattle.text.proofs.LineLaws.{line-within, line-some}
+use Rattle.text.proofs.InputLaws.{take-none, char-stays, take-bad, take-push, char-of, char-next}
 use Rattle.text.proofs.input.char_in.Statement.{statement}
 use Rattle.text.proofs.input.char_in.Tie as tie
 
@@ -31,21 +30,41 @@ line c = take (c .before .before .before .line-end .result - begin c .args .at) 
 valid : (c : tie.Then2) → Valid (line c)
 valid c = rw (c .if2 .taken) at (c .before .is-utf8 .ensures)
 
+-- a line that begins within the input has a byte
+some-bytes : (c : tie.Then2) → 0 < length (line c)
+some-bytes c =
+    let z = begin c in
+    let e = c .before .before .before .line-end in
+    line-some (z .args .input .now) (z .args .at) (e .result) (e .ensures) (c .before .before .before .before .if1 .left)
+
+-- from where the first character is known back to where the line is known to be UTF-8
+abbrev whole : tie.After-known-told → tie.Then2
+whole c = c .before .before .before .before
+
+first : (c : tie.After-known-told) → IsChar (line (whole c)) 0 (c .before .cp .given .0 .0) (c .before .cp .given .0 .1 .0)
+first c =
+    let p = c .before .cp .given in
+    let d = c .before .before .before .decode in
+    is-char _ 0 (d .result) (d .ensures) (p .0 .0) (p .0 .1 .0) (p .1)
+
 returns : tie.Need-returns
 unfolding charOf
-returns c = take-none charOf (c .before .before .args .input .now) (c .before .before .args .at) refl (c .if1 .taken)
+returns c =
+    let a = c .before .before .args in
+    take-none (a .input .now) (a .at) (c .if1 .taken) charOf (charNext (a .edition)) refl
+    (char-stays (a .input .now) (a .at) (c .if1 .taken) (a .edition))
 
 line-end-requires : tie.Need-line-end-requires
 line-end-requires c κs = search needs
 
-sub-line : tie.Need-sub-line
-sub-line c = search needs
+sub-left : tie.Need-sub-left
+sub-left c = search needs
 
-part-line-start : tie.Need-part-line-start
-part-line-start c = search needs
+part-left-start : tie.Need-part-left-start
+part-left-start c = search needs
 
-part-line-end : tie.Need-part-line-end
-part-line-end c =
+part-left-end : tie.Need-part-left-end
+part-left-end c =
     let z = c .before .before .before in
     omega (arith, line-within (z .args .input .now) (z .args .at) (omega arith))
 
@@ -58,35 +77,46 @@ decode-requires c κs = search needs
 enum-known-cp : tie.Need-enum-known-cp
 enum-known-cp c = search needs
 
+-- never reached
 returns-2 : tie.Need-returns-2
 returns-2 c =
     let d = c .before .decode in
-    let z = c .before .before .before .before .before in
-    let a = z .before .before .before .args in
-    let v = valid (c .before .before) in
-    take-skip charOf (a .input .now) (a .at) (z .line-end .result) (z .line-end .ensures) (v .0) (v .1) Ended
-    (no-char-of _ (v .0) (v .1) (d .result) (c .match .keys2) (d .ensures))
+    let h = some-bytes (c .before .before) in
+    absurd (bad-never _ 0 h (no-char _ 0 (d .result) (d .ensures) (c .match .keys2) h) (valid (c .before .before)))
 
-cast-t15 : tie.Need-cast-t15
-cast-t15 c = search needs
+cast-value : tie.Need-cast-value
+cast-value c = search needs
+
+add-after-char : tie.Need-add-after-char
+add-after-char c =
+    let x = whole c in
+    let a = begin x .args in
+    let p = c .before .cp .given in
+    let end = x .before .before .before .line-end in
+    omega (arith, length-take (end .result - a .at) (drop (a .at) (a .input .now)), read-within (line x) 0 (p .0 .0) (p .0 .1 .0) (first c))
+
+after-char-requires : tie.Need-after-char-requires
+after-char-requires c κs = search needs
 
 returns-3 : tie.Need-returns-3
 returns-3 c =
-    let p = c .before .cp .given in
-    let x = c .before .before .before in
-    let d = x .decode in
-    let z = x .before .before .before .before in
-    let a = z .before .before .before .args in
-    let v = valid (x .before) in
-    take-push charOf (a .input .now) (a .at) (z .line-end .result) (z .line-end .ensures) (v .0) (v .1) _
-    (char-of _ (v .0) (v .1) (p .0 .0) (p .0 .1 .0) (is-char _ 0 (d .result) (d .ensures) (p .0 .0) (p .0 .1 .0) (p .1))
-    ∙ ap Value (sym (toZ-pos w64 (p .0 .0) (omega arith))))
+    let x = whole (c .before) in
+    let p = c .before .before .cp .given in
+    let z = x .before .before .before in
+    let a = begin x .args in
+    let v = valid x in
+    let k = first (c .before) in
+    take-push charOf (charNext (a .edition)) (a .input .now) (a .at) (z .line-end .result) (z .line-end .ensures) (v .0) (v .1)
+    (c .after-char .result) _
+    (char-of _ (v .0) (v .1) (p .0 .0) (p .0 .1 .0) k ∙ ap Value (sym (toZ-pos w64 (p .0 .0) (omega arith))))
+    (c .after-char .ensures
+    ∙ char-next _ (v .0) (v .1) (p .0 .0) (p .0 .1 .0) k (a .edition) (a .input .now) (a .at) (z .line-end .result) (z .line-end .ensures))
 
 returns-4 : tie.Need-returns-4
 returns-4 c =
     let y = c .before .before .before in
     let z = y .before .before .before in
-    take-bad charOf (z .args .input .now) (z .args .at) (y .line-end .result) (y .line-end .ensures)
+    take-bad charOf (charNext (z .args .edition)) (z .args .input .now) (z .args .at) (y .line-end .result) (y .line-end .ensures)
     (rw (c .if2 .left) at (c .before .is-utf8 .ensures))
 
 pub char-in-spec : {M : Type 1} → statement M
@@ -95,13 +125,15 @@ char-in-spec =
     (tie.spec
     returns
     line-end-requires
-    sub-line
-    part-line-start
-    part-line-end
+    sub-left
+    part-left-start
+    part-left-end
     is-utf8-requires
     decode-requires
     enum-known-cp
     returns-2
-    cast-t15
+    cast-value
+    add-after-char
+    after-char-requires
     returns-3
     returns-4)

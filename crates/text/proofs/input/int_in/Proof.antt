@@ -8,10 +8,10 @@ use native.Mathlib.Omega.{arith}
 use borrow.Author.Needs.{needs}
 use lib.ListN.{length, take, drop}
 use Rattle.text.specs.Utf8.{Valid}
-use Rattle.text.specs.Input.{intOf}
+use Rattle.text.specs.Input.{intOf, wholeLine}
 use Rattle.text.specs.declared.number.Number.the-variants.{Value}
 use Rattle.text.proofs.LineLaws.{line-within, line-some}
-use Rattle.text.proofs.InputLaws.{take-none, take-bad, take-skip, take-push, int-of}
+use Rattle.text.proofs.InputLaws.{take-none, line-stays, take-bad, take-skip, take-push, int-of}
 use Rattle.text.proofs.input.int_in.Statement.{statement}
 use Rattle.text.proofs.input.int_in.Tie as tie
 
@@ -43,7 +43,9 @@ number c =
 
 returns : tie.Need-returns
 unfolding intOf
-returns c = take-none intOf (c .before .before .args .input .now) (c .before .before .args .at) refl (c .if1 .taken)
+returns c =
+    let a = c .before .before .args in
+    take-none (a .input .now) (a .at) (c .if1 .taken) intOf wholeLine refl (line-stays (a .input .now) (a .at) (c .if1 .taken))
 
 line-end-requires : tie.Need-line-end-requires
 line-end-requires c κs = search needs
@@ -80,8 +82,8 @@ returns-2 c =
     let v = valid (x .before .before) in
     let z = x .before .before .before .before .before in
     let a = z .before .before .before .args in
-    take-push intOf (a .input .now) (a .at) (z .line-end .result) (z .line-end .ensures) (v .0) (v .1) _
-    (number x ∙ c .before .value .given .1 ∙ ap Value (sym (search needs)))
+    take-push intOf wholeLine (a .input .now) (a .at) (z .line-end .result) (z .line-end .ensures) (v .0) (v .1) (z .line-end .result) _
+    (number x ∙ c .before .value .given .1 ∙ ap Value (sym (search needs))) (z .line-end .ensures)
 
 returns-3 : tie.Need-returns-3
 returns-3 c =
@@ -89,14 +91,14 @@ returns-3 c =
     let v = valid (x .before .before) in
     let z = x .before .before .before .before .before in
     let a = z .before .before .before .args in
-    take-skip intOf (a .input .now) (a .at) (z .line-end .result) (z .line-end .ensures) (v .0) (v .1) (c .before .why .given .0 .0)
-    (number x ∙ c .before .why .given .1)
+    take-skip intOf wholeLine (a .input .now) (a .at) (z .line-end .result) (z .line-end .ensures) (v .0) (v .1) (z .line-end .result)
+    (c .before .why .given .0 .0) (number x ∙ c .before .why .given .1) (z .line-end .ensures)
 
 returns-4 : tie.Need-returns-4
 returns-4 c =
     let y = c .before .before .before in
     let z = y .before .before .before in
-    take-bad intOf (z .args .input .now) (z .args .at) (y .line-end .result) (y .line-end .ensures)
+    take-bad intOf wholeLine (z .args .input .now) (z .args .at) (y .line-end .result) (y .line-end .ensures)
     (rw (c .if2 .left) at (c .before .is-utf8 .ensures))
 
 pub int-in-spec : {M : Type 1} → statement M
