@@ -95,9 +95,6 @@ module _ {e : Edition} {p : Picture} {map : List ℕ} (S : Sound p) (L : length 
 
 module _ {p : Picture} {map : List ℕ} (S : Sound p) (L : length map ≡ codels p) where
   module _ (g : Given) (room : RunRoom) where
-    abbrev edition : Edition
-    edition = g .terms .edition
-
     -- ---- walks of one length end alike
 
     walk-valid : {h : List Move} {r : ℕ} {m : Store} → Walk p map g room h r m → Valid (m .pointers)
@@ -107,19 +104,19 @@ module _ {p : Picture} {map : List ℕ} (S : Sound p) (L : length map ≡ codels
 
     -- from one place the next move is one, and comes to one thing
     move-only : {r t i r′ t′ i′ : ℕ} {m m′ : Store} {u u′ : PointerState} → Valid (m .pointers) → r ≡ r′ → m ≡ m′
-        → FirstOpen edition p map r (m .pointers) t u i → FirstOpen edition p map r′ (m′ .pointers) t′ u′ i′
+        → FirstOpen (g .terms .edition) p map r (m .pointers) t u i → FirstOpen (g .terms .edition) p map r′ (m′ .pointers) t′ u′ i′
         → (t ≡ t′) × (doing p map g room r u i m ≡ doing p map g room r′ u′ i′ m′)
     move-only {r} {t} {i} {r′} {t′} {i′} {m} {m′} {u} {u′} v er em F F′ =
-        let o = first-only S L v F (subst (λ (x : ℕ). FirstOpen edition p map x (m .pointers) t′ u′ i′) (sym er)
-        (subst (λ (y : Store). FirstOpen edition p map r′ (y .pointers) t′ u′ i′) (sym em) F′)) in
+        let o = first-only S L v F (subst (λ (x : ℕ). FirstOpen (g .terms .edition) p map x (m .pointers) t′ u′ i′) (sym er)
+        (subst (λ (y : Store). FirstOpen (g .terms .edition) p map r′ (y .pointers) t′ u′ i′) (sym em) F′)) in
         (o .0, λ j. doing p map g room (er j) (o .1 j) (o .2 j) (em j))
 
     -- no move is left, and one is
-    none-first : {r r′ t i : ℕ} {m m′ : Store} {u : PointerState} → Valid (m′ .pointers) → r ≡ r′ → m ≡ m′ → NoMove edition p map r (m .pointers)
-        → FirstOpen edition p map r′ (m′ .pointers) t u i → ⊥
+    none-first : {r r′ t i : ℕ} {m m′ : Store} {u : PointerState} → Valid (m′ .pointers) → r ≡ r′ → m ≡ m′ → NoMove (g .terms .edition) p map r (m .pointers)
+        → FirstOpen (g .terms .edition) p map r′ (m′ .pointers) t u i → ⊥
     none-first {r} {r′} {m = m} {m′ = m′} v er em N F =
         not-both S L v
-        (subst (λ (y : Store). NoMove edition p map r′ (y .pointers)) em (subst (λ (x : ℕ). NoMove edition p map x (m .pointers)) er N)) F
+        (subst (λ (y : Store). NoMove (g .terms .edition) p map r′ (y .pointers)) em (subst (λ (x : ℕ). NoMove (g .terms .edition) p map x (m .pointers)) er N)) F
 
     walk-only : {h h′ : List Move} {r r′ : ℕ} {m m′ : Store} → Walk p map g room h r m → Walk p map g room h′ r′ m′ → length h ≡ length h′
         → (r ≡ r′) × (m ≡ m′)

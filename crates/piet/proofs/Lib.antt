@@ -11,3 +11,4 @@ pub mod Only
 pub mod Page
 pub mod PageCommands
 pub mod PageRoll
+pub mod PageEdition

@@ -10,8 +10,12 @@ use lib.Dec.{ltb}
 use lib.ListN.{length}
 use lib.IntN.{ℤ, pos, negsuc, natAbs, negℤ, _+ℤ_, _-ℤ_, _*ℤ_}
 use lib.Signed.{ltZ, quotZ}
-use Rattle.word.specs.Word.{residue, wrap, isZero, quotient, remainder}
+use Rattle.base.specs.declared.edition.Edition.{Edition}
+use Rattle.base.specs.declared.edition.Edition.the-variants.{Rust, Page}
+use Rattle.word.specs.Word.{residue, wrap, isZero, quotient, rustRemainder, pageRemainder, remainder}
 use Rattle.word.proofs.Wrapping.{wrap-fits, quot-fits, residue-lt}
+use Rattle.word.proofs.Signed.{is-not-zero}
+use Rattle.word.proofs.FloorLaws.{left-pos}
 use Rattle.colour.specs.Instruction as instruction
 use Rattle.picture.specs.Picture.{Picture, codels}
 use Rattle.region.specs.Tally.{tally}
@@ -23,7 +27,7 @@ use Rattle.text.specs.Range.{within}
 use Rattle.text.specs.declared.input.Taken.the-variants as Line
 use Rattle.text.specs.Reading.{takeOf}
 use Rattle.text.specs.declared.number.Reason.{Reason}
-use Rattle.text.specs.Input.{charOf, intOf}
+use Rattle.text.specs.Input.{charOf, intOf, wholeLine, charNext}
 use Rattle.stack.specs.declared.Pairing.{Pairing}
 use Rattle.stack.specs.declared.Pairing.the-variants.{Add, Sub, Mul, Div, Mod, Gt}
 use Rattle.stack.specs.Instr as Instr
@@ -59,11 +63,6 @@ flipped-times (pos n) q v = flips n q v
 flipped-times (negsuc n) q v = flips (suc n) q v ∙ same-state _ _ refl (omega arith)
 
 -- ---- the commands
-
-is-not-zero : (a : ℤ) → (a ≡ pos 0 → ⊥) → isZero a ≡ false
-unfolding isZero
-is-not-zero (pos n) h = ne-eqb n 0 (λ e. h (ap pos e))
-is-not-zero (negsuc n) h = refl
 
 scalar-small : (u : ℕ) → scalar u ≡ true → u < 0x110000
 unfolding scalar
@@ -117,9 +116,11 @@ unfolding exec Instr.pop
 pop a s g size m = refl
 
 -- a value that takes the place of two
-combines : (o : Pairing) (a b z : ℤ) (s : List ℤ) → Instr.combined o b a ≡ z ∷ [] → Changes (Pair o) (a ∷ b ∷ s) (z ∷ s)
-unfolding exec Instr.binary
-combines o a b z s e g size m = ap (λ (l : List ℤ). does (withStack (l ++ s) m)) e
+combines : (o : Pairing) (a b z : ℤ) (s : List ℤ) → ((e : Edition) → Instr.combined e o b a ≡ z ∷ []) → Changes (Pair o) (a ∷ b ∷ s) (z ∷ s)
+unfolding exec Instr.inPlace Instr.binary
+combines o a b z s h g size m =
+    let e = g .terms .edition in
+    ap (λ (l : List ℤ). does (withStack (Instr.inPlace e l (a ∷ b ∷ s)) m)) (h e)
 
 fits : (z : ℤ) → InRange z → wrap z ∷ [] ≡ z ∷ []
 fits z h = ap (λ (y : ℤ). y ∷ []) (wrap-fits z (record { sfits = h }))
@@ -153,37 +154,45 @@ module _ (a b : ℤ) (s : List ℤ) where
   -- add, subtract, multiply: the result of b and a takes the place of both (rule 14.11)
   pub add : InRange (b +ℤ a) → Changes (Pair Add) (a ∷ b ∷ s) ((b +ℤ a) ∷ s)
   unfolding Instr.combined
-  add h = combines Add a b (b +ℤ a) s (fits (b +ℤ a) h)
+  add h = combines Add a b (b +ℤ a) s (λ e. fits (b +ℤ a) h)
 
   pub subtract : InRange (b -ℤ a) → Changes (Pair Sub) (a ∷ b ∷ s) ((b -ℤ a) ∷ s)
   unfolding Instr.combined
-  subtract h = combines Sub a b (b -ℤ a) s (fits (b -ℤ a) h)
+  subtract h = combines Sub a b (b -ℤ a) s (λ e. fits (b -ℤ a) h)
 
   pub multiply : InRange (b *ℤ a) → Changes (Pair Mul) (a ∷ b ∷ s) ((b *ℤ a) ∷ s)
   unfolding Instr.combined
-  multiply h = combines Mul a b (b *ℤ a) s (fits (b *ℤ a) h)
+  multiply h = combines Mul a b (b *ℤ a) s (λ e. fits (b *ℤ a) h)
 
   -- divide, in whole numbers, but by 0, and but -2^63 by -1; `quotZ` rounds toward zero
   pub divide : InRange b → (a ≡ pos 0 → ⊥) → (a ≡ negsuc 0 → b ≡ negsuc (2 ^ 63 - 1) → ⊥) → Changes (Pair Div) (a ∷ b ∷ s) (quotZ b a ∷ s)
   unfolding Instr.combined quotient
-  divide r z h = combines Div a b (quotZ b a) s (rw (is-not-zero a z) (fits (quotZ b a) (quot-range b a r h)))
+  divide r z h = combines Div a b (quotZ b a) s (λ e. rw (is-not-zero a z) (fits (quotZ b a) (quot-range b a r h)))
 
   -- greater: 1 where b is greater than a, else 0 (rule 14.12)
   pub greater : ltZ a b ≡ true → Changes (Pair Gt) (a ∷ b ∷ s) (pos 1 ∷ s)
   unfolding Instr.combined
-  greater h = combines Gt a b (pos 1) s (rw h)
+  greater h = combines Gt a b (pos 1) s (λ e. rw h)
 
   pub not-greater : ltZ a b ≡ false → Changes (Pair Gt) (a ∷ b ∷ s) (pos 0 ∷ s)
   unfolding Instr.combined
-  not-greater h = combines Gt a b (pos 0) s (rw h)
+  not-greater h = combines Gt a b (pos 0) s (λ e. rw h)
+
+-- mod by a positive top is the residue, in both editions
+residue-comes : (a : ℕ) (b : ℤ) → 0 < a → InRange (pos a) → (e : Edition) → Instr.combined e Mod b (pos a) ≡ pos (residue b a) ∷ []
+unfolding Instr.combined rustRemainder pageRemainder remainder
+residue-comes a b h r Rust = rw (ne-eqb a 0 (λ e. omega arith), ne-eqb a (2 ^ 63) (λ e. omega arith))
+residue-comes a b h r Page = rw (is-not-zero (pos a) some) (ap (λ (z : ℤ). z ∷ []) (left-pos b a some .0))
+  where
+    some : pos a ≡ pos 0 → ⊥
+    some e = let z : a ≡ 0 = cc in omega arith
 
 -- mod has the sign of a: for a positive top a it is r from 0 to a - 1, where b is a multiple of a and r
 pub modulo : (a : ℕ) (b : ℤ) (s : List ℤ) → 0 < a → InRange (pos a)
     → (r : ℕ) × Changes (Pair Mod) (pos a ∷ b ∷ s) (pos r ∷ s) × (r < a) × ((q : ℤ) × (b ≡ q *ℤ pos a +ℤ pos r))
-unfolding Instr.combined remainder
 modulo a b s h r = (
   residue b a,
-  combines Mod (pos a) b (pos (residue b a)) s (rw (ne-eqb a 0 (λ e. omega arith), ne-eqb a (2 ^ 63) (λ e. omega arith))),
+  combines Mod (pos a) b (pos (residue b a)) s (residue-comes a b h r),
   residue-lt b a h,
   residue-differs a b h,
 )
@@ -230,25 +239,26 @@ pub out-character : (g : Given) (size u : ℕ) (s : List ℤ) (m : Store) → sc
 unfolding exec write ofTop Instr.pop char residue
 out-character g size u s m h = rw (mod-eq-of-lt {n = u} {m = 2 ^ 32} (omega (arith, scalar-small u h)), h)
 
--- in: a number or a character is read and pushed, and the command is ignored where there is none: ours reads a line
--- (docs/DIFFERENCES.md), and pushes what it gives or leaves the stack; a skipped number line is counted
+-- in: a number or a character is read and pushed, and the command is ignored where there is none: ours reads a line, of which
+-- CharIn takes one character in edition 2 (docs/DIFFERENCES.md), and pushes what it gives or leaves the stack; a skipped number
+-- line is counted
 module _ (g : Given) (reads : g .terms .«abstract_mode» ≡ false) (size : ℕ) (m : Store) where
-  pub in-number : (v : ℤ) (n : ℕ) → takeOf intOf (g .input) (m .reading .used) ≡ Line.Push v n
+  pub in-number : (v : ℤ) (n : ℕ) → takeOf intOf wholeLine (g .input) (m .reading .used) ≡ Line.Push v n
       → exec g size IntIn m ≡ does (withUsed n (withStack (v ∷ m .stack) m))
   unfolding exec read take counted
   in-number v n h = rw (reads, h)
 
-  pub in-character : (v : ℤ) (n : ℕ) → takeOf charOf (g .input) (m .reading .used) ≡ Line.Push v n
+  pub in-character : (v : ℤ) (n : ℕ) → takeOf charOf (charNext (g .terms .edition)) (g .input) (m .reading .used) ≡ Line.Push v n
       → exec g size CharIn m ≡ does (withUsed n (withStack (v ∷ m .stack) m))
   unfolding exec read take
   in-character v n h = rw (reads, h)
 
-  pub no-number : (n : ℕ) (why : Reason) → takeOf intOf (g .input) (m .reading .used) ≡ Line.Skip n why
+  pub no-number : (n : ℕ) (why : Reason) → takeOf intOf wholeLine (g .input) (m .reading .used) ≡ Line.Skip n why
       → exec g size IntIn m ≡ does (withUsed n (withSkips (oneMore why (m .reading .skips)) m))
   unfolding exec read take counted
   no-number n why h = rw (reads, h)
 
-  pub no-character : (n : ℕ) (why : Reason) → takeOf charOf (g .input) (m .reading .used) ≡ Line.Skip n why
+  pub no-character : (n : ℕ) (why : Reason) → takeOf charOf (charNext (g .terms .edition)) (g .input) (m .reading .used) ≡ Line.Skip n why
       → exec g size CharIn m ≡ does (withUsed n m)
   unfolding exec read take
   no-character n why h = rw (reads, h)

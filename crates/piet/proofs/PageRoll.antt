@@ -70,7 +70,7 @@ module _ (n : ℕ) (s : List ℤ) (some : 0 < n) (fits : n ≤ length s) where
       ∙ ap (λ (i : ℕ). Instr.turn n i s) (sym (ap (λ (i : ℕ). i % n) (add-suc k j) ∙ suc-mod (k + j) n))
 
   rolls : (a : ℤ) → Changes Roll (a ∷ pos n ∷ s) (Instr.turn n (residue a n) s)
-  unfolding exec Instr.roll Instr.places Instr.rolled
+  unfolding exec Instr.roll Instr.badDepth Instr.places Instr.rolled
   rolls a g size m = rw (le-ltb (length s) n fits, ne-eqb n 0 (λ e. omega arith))
 
   -- a rolls to depth n
@@ -98,5 +98,5 @@ module _ (n : ℕ) (s : List ℤ) (some : 0 < n) (fits : n ≤ length s) where
 
 -- a roll to depth 0: both values go, and nothing moves
 pub roll-none : (a : ℤ) (s : List ℤ) → Changes Roll (a ∷ pos 0 ∷ s) s
-unfolding exec Instr.roll Instr.places Instr.rolled
+unfolding exec Instr.roll Instr.badDepth Instr.places Instr.rolled
 roll-none a s g size m = rw (le-ltb (length s) 0 (omega arith))

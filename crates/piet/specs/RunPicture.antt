@@ -59,7 +59,7 @@ refusalOf a l = refusal a (length (l .colours)) (length (l .map)) (length (l .ro
 -- the refusal's number, with the place of an unknown pixel (rule 12.2); or 0, with the run's result and then the count of
 -- regions (rule 8.5)
 abbrev pub numbered : Pictured → Numbers
-numbered (Refused number row column) = numbers number (row ∷ column ∷ [])
+numbered (Refused number y x) = numbers number (y ∷ x ∷ [])
 numbered (Finished e regions) = numbers 0 (resultOf e ++ (regions ∷ []))
 
 -- what a call leaves that is not refused, where the run ends in e: one edition is that of the table and of the run. Demand 3 is

@@ -181,7 +181,15 @@ fn run_colours(
     ensures { λ r. ⌜ Draws height width codel (asks edition limit «abstract_mode» (now (input .entry))) (lends (now (colours .entry)) (now (map .entry)) (now (rows .entry)) (now (exits .entry)) (now (work .entry)) (now (stack .entry)) (now (kinds .entry)) (now (values .entry))) r (lends (now (colours .entry)) (now (map .exit)) (now (rows .exit)) (now (exits .exit)) (now (work .exit)) (now (stack .exit)) (now (kinds .exit)) (now (values .exit))) ⌝ }
 {
     let built = cfg::build(
-        colours, height, width, codel, edition, map, rows, exits, work,
+        colours,
+        height,
+        width,
+        codel,
+        edition,
+        map,
+        rows,
+        exits,
+        work,
     );
     if let Built::Done { regions } = built {
         return run_table(

@@ -78,7 +78,7 @@ same-length-11 c = search needs
 returns-2 : tie.Need-returns-2
 returns-2 c =
     let b = called (c .before) in
-    absurd (built (begin (known b) .pre) (b .build .ensures) (λ n e. miss (1 ∷ 2 ∷ 3 ∷ 4 ∷ 5 ∷ 6 ∷ 7 ∷ []) 0 tt (rw e at (c .match .keys2))))
+    absurd (built (begin (known b) .pre) (b .build .ensures) (λ n e. miss (1 ∷ 2 ∷ 3 ∷ 4 ∷ 5 ∷ 6 ∷ 7 ∷ 8 ∷ []) 0 tt (rw e at (c .match .keys2))))
 
 pub run-colours-spec : {M : Type 1} → statement M
 run-colours-spec =
