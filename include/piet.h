@@ -14,6 +14,9 @@
  * that of an empty slice. Slices of one call do not overlap where one of them is written. No call keeps what it was
  * lent, none allocates, and none touches what lies past a slice's end.
  *
+ * Editions. The rules have two editions (enum piet_edition). A call that builds or runs takes the number of one; every
+ * other number, 0 too, is PIET_REFUSED_EDITION, which comes before the call's other refusals.
+ *
  * What is returned. 0 for done, else a refusal (enum piet_refusal). Any argument may be wrong: no value of a number
  * or of a lent cell does more than a refusal.
  *
@@ -49,7 +52,31 @@ enum piet_refusal {
     PIET_REFUSED_TABLE = 10,   /* not a valid table: see piet_run */
     PIET_REFUSED_LABEL = 12,   /* colour above 19, row or column above 1,023, or under 22 bytes lent */
     PIET_REFUSED_HEADER = 13,  /* no P6 header, or another maximum than 255 */
-    PIET_REFUSED_LENGTH = 14   /* too few or too many bytes after a P6 header */
+    PIET_REFUSED_LENGTH = 14,  /* too few or too many bytes after a P6 header */
+    PIET_REFUSED_EDITION = 15  /* an edition other than 1 and 2 */
+};
+
+/*
+ * The edition of the rules by which a table is built or run. With a the top of the stack and b the value below it, the
+ * two differ in these:
+ *
+ *                      PIET_EDITION_RUST                         PIET_EDITION_PAGE
+ *   a lost slide       its attempt is not open, exit 0: the      its exit is PIET_EXIT_LOST: where no attempt before
+ *   over white         next of the eight is tried                it is open, the run is completed without a step
+ *   Div, Mod by 0      both values are gone                      the stack stays as it was
+ *   Mod                b modulo the absolute value of a, never   b - a x floor(b / a): 0, or of a's sign
+ *                      negative; by -2^63 both are gone
+ *   Roll, its depth    both values are gone                      the stack stays as it was
+ *   negative or above
+ *   the values left
+ *   CharIn             takes a line, and pushes its first        takes one character, and leaves the rest of the line
+ *                      character                                 to the next read
+ *
+ * All else is the same in both.
+ */
+enum piet_edition {
+    PIET_EDITION_RUST = 1, /* the rules of the Rust program pwang00/pietcc */
+    PIET_EDITION_PAGE = 2  /* those of the public Piet page */
 };
 
 /* Colour numbers: a hue 0 to 5, plus 6 for each step of lightness above dark. */
@@ -121,7 +148,7 @@ enum piet_instruction {
 
 /* Why a run stopped. 4, 5 and 6: the step is not taken, and everything stands as before it. */
 enum piet_status {
-    PIET_COMPLETED = 1,   /* no attempt is open */
+    PIET_COMPLETED = 1,   /* no attempt is open, or, in PIET_EDITION_PAGE, none before a lost slide */
     PIET_MAX_STEPS = 2,   /* as many steps as the limit */
     PIET_NEEDS_INPUT = 3, /* abstract mode, after an input instruction */
     PIET_STACK_FULL = 4,  /* the depth after the step would pass the stack's room */
@@ -130,10 +157,11 @@ enum piet_status {
 };
 
 /*
- * The cells of a run's answer. The four SKIPPED count the steps at which IntIn skipped its line, by the reason. White
- * space, Unicode's (U+3000 too), is taken off both ends of the line; what is left is a number where it is a sign or none
- * and one or more digits 0 to 9. Only steps that are taken count, so that the four together are at most the steps: a line
- * that is not UTF-8 is PIET_BAD_INPUT and counts nothing. In abstract mode nothing is read, and nothing counts.
+ * The cells of a run's answer. The four SKIPPED count the steps at which IntIn skipped its line, by the reason. What
+ * CharIn left of a line (PIET_EDITION_PAGE) is a line here. White space, Unicode's (U+3000 too), is taken off both ends
+ * of the line; what is left is a number where it is a sign or none and one or more digits 0 to 9. Only steps that are
+ * taken count, so that the four together are at most the steps: a line that is not UTF-8 is PIET_BAD_INPUT and counts
+ * nothing. In abstract mode nothing is read, and nothing counts.
  */
 enum piet_run_cell {
     PIET_RUN_STATUS = 0,                /* enum piet_status */
@@ -173,7 +201,12 @@ enum piet_size {
     PIET_P6_HEADER = 17
 };
 
-/* An exit that is not 0 is 1 + target region + 65,536 x new pointer state + 524,288 x instruction. */
+/*
+ * An exit cell is 0 where the attempt is not open, and in PIET_EDITION_PAGE PIET_EXIT_LOST where it is a slide over
+ * white that is lost. Every other is 1 + target region + 65,536 x new pointer state + 524,288 x instruction, at most
+ * 9,437,184; the other three names are for these.
+ */
+#define PIET_EXIT_LOST 9437185u
 #define PIET_EXIT_TARGET(exit) (((exit) - 1u) % 65536u)
 #define PIET_EXIT_STATE(exit) (((exit) - 1u) / 65536u % 8u)
 #define PIET_EXIT_INSTRUCTION(exit) (((exit) - 1u) / 524288u)
@@ -200,21 +233,24 @@ uint32_t piet_classify(const uint8_t *pixels, size_t pixels_length,
  * The table of a picture. With G = ceil(height / codel) x ceil(width / codel) codels and n regions:
  *
  *   colours   height x width colour numbers, one a pixel; a codel has the colour of its top left pixel
+ *   edition   enum piet_edition
  *   map       room for G: the region of each codel, row by row; regions are numbered from 0 by their first codel
  *   rows      room for 5 x G: five cells a region: colour, size in codels, row and column of its first pixel, 1 for
  *             a node (a region that is found from region 0 and is not white) else 0
  *   exits     room for 8 x G: eight cells a region, by pointer state 2 x dp + cc (dp right, down, left, up 0 to 3;
- *             cc left, right 0, 1): 0 where the region is no node or the attempt is not open, else as PIET_EXIT_TARGET,
- *             PIET_EXIT_STATE and PIET_EXIT_INSTRUCTION read it
+ *             cc left, right 0, 1): 0 where the region is no node or the attempt is not open; PIET_EXIT_LOST where it
+ *             is a lost slide, in PIET_EDITION_PAGE alone; else as PIET_EXIT_TARGET, PIET_EXIT_STATE and
+ *             PIET_EXIT_INSTRUCTION read it
  *   work      room for G, left 0
  *   answer    2 cells: n and 0; with PIET_REFUSED_COLOUR, 0 and the index of the first colour above 19
  *
  * Row and exit cells past the n regions, up to the room, become 0; cells past the room stay as they were.
  *
- * Returns the first refusal that holds in the order SIZE, CODEL, GRID, BYTES, COLOUR, WHITE, ROOM, or PIET_DONE.
+ * Returns the first refusal that holds in the order EDITION, SIZE, CODEL, GRID, BYTES, COLOUR, WHITE, ROOM, or
+ * PIET_DONE.
  */
 uint32_t piet_build(const uint8_t *colours, size_t colours_length,
-                    size_t height, size_t width, size_t codel,
+                    size_t height, size_t width, size_t codel, uint32_t edition,
                     uint32_t *map, size_t map_length,
                     uint32_t *rows, size_t rows_length,
                     uint32_t *exits, size_t exits_length,
@@ -235,9 +271,9 @@ uint32_t piet_label(uint8_t colour, size_t row, size_t column,
                     uint64_t *answer, size_t answer_length);
 
 /*
- * Whether every node of a table has an exit that is not 0.
+ * Whether every node of a table has an exit that is not 0. This is of PIET_EDITION_RUST.
  *
- *   n, rows, exits   a table, as for piet_run
+ *   n, rows, exits   a table, as for piet_run in PIET_EDITION_RUST, so that one with PIET_EXIT_LOST is refused
  *   answer           1 cell: 1 for yes, 0 for no
  *
  * Returns PIET_REFUSED_TABLE or PIET_DONE.
@@ -251,6 +287,7 @@ uint32_t piet_determine_runs_forever(size_t n,
  * A run over a table, from region 0 with dp right, cc left and an empty stack.
  *
  *   n, rows, exits   the table: the count of regions, 5 x n row cells, 8 x n exit cells; longer slices will do
+ *   edition          enum piet_edition. A table that was built in the other edition is run by its exits as they stand
  *   limit            the most steps
  *   abstract_mode    true: an input instruction reads nothing, and the run stops after it
  *   input            the bytes that input instructions read, by lines
@@ -262,13 +299,14 @@ uint32_t piet_determine_runs_forever(size_t n,
  *
  * All cells of stack, kinds and values past the depth or the count of outputs, each slice to its end, become 0.
  *
- * Returns PIET_REFUSED_TABLE where n is 0 or above 65,536, rows or exits are short, a node mark is above 1, or an exit
- * is above 9,437,184 or has a target that is not below n; else PIET_DONE.
+ * Returns the first refusal that holds in the order EDITION, TABLE, or PIET_DONE. PIET_REFUSED_TABLE is where n is 0 or
+ * above 65,536, rows or exits are short, a node mark is above 1, or an exit is above 9,437,184 or has a target that is
+ * not below n; in PIET_EDITION_PAGE the exit PIET_EXIT_LOST passes too.
  */
 uint32_t piet_run(size_t n,
                   const uint32_t *rows, size_t rows_length,
                   const uint32_t *exits, size_t exits_length,
-                  uint64_t limit, bool abstract_mode,
+                  uint32_t edition, uint64_t limit, bool abstract_mode,
                   const uint8_t *input, size_t input_length,
                   int64_t *stack, size_t stack_length,
                   uint8_t *kinds, size_t kinds_length,
@@ -281,6 +319,7 @@ uint32_t piet_run(size_t n,
  *
  *   pixels, setting              as for piet_classify
  *   codel                        the codel width, as for piet_build
+ *   edition                      enum piet_edition, for building and for running
  *   limit, abstract_mode, input  as for piet_run
  *   colours                      room for height x width bytes, written as by piet_classify
  *   map, rows, exits, work       room for G, 5 x G, 8 x G and G, written as by piet_build
@@ -288,11 +327,11 @@ uint32_t piet_run(size_t n,
  *   answer                       13 cells: the twelve of piet_run, then the count of regions; with PIET_REFUSED_PIXEL,
  *                                row and column of the first such pixel, then eleven zeros
  *
- * Returns the first refusal that holds in the order SIZE, SETTING, BYTES, ROOM (of colours), PIXEL, and then CODEL,
- * GRID, WHITE, ROOM (of map, rows, exits or work); or PIET_DONE.
+ * Returns the first refusal that holds in the order EDITION, SIZE, SETTING, BYTES, ROOM (of colours), PIXEL, and then
+ * CODEL, GRID, WHITE, ROOM (of map, rows, exits or work); or PIET_DONE.
  */
 uint32_t piet_run_picture(const uint8_t *pixels, size_t pixels_length,
-                          size_t height, size_t width, uint8_t setting, size_t codel,
+                          size_t height, size_t width, uint8_t setting, size_t codel, uint32_t edition,
                           uint64_t limit, bool abstract_mode,
                           const uint8_t *input, size_t input_length,
                           uint8_t *colours, size_t colours_length,

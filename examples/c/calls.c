@@ -33,6 +33,9 @@
 
 enum { HEIGHT = 3, WIDTH = 5, CODEL = 2, REGIONS = 4 };
 
+/* A number that no edition has. */
+enum { NO_EDITION = 3 };
+
 /* The pixel (2,1) has none of the twenty colours. */
 static const uint8_t pixels[3 * HEIGHT * WIDTH] = {
     255, 0, 0, 0, 0, 0, 192, 192, 255, 0, 0, 0, 0, 255, 255, /* red, light blue and cyan, with black between them */
@@ -174,7 +177,7 @@ static void label(uint64_t *answer, size_t answer_length)
 struct build_call {
     const uint8_t *colours;
     size_t colours_length, height, width, codel;
-    uint32_t *map;
+    uint32_t edition, *map;
     size_t map_length;
     uint32_t *rows;
     size_t rows_length;
@@ -186,13 +189,13 @@ struct build_call {
     size_t answer_length;
 };
 
-static void build(uint64_t *answer, size_t answer_length)
+static void build(uint32_t edition, uint64_t *answer, size_t answer_length)
 {
     struct table table;
     fill_table(&table);
     struct build_call call = {
         .colours = known, .colours_length = COUNT(known),
-        .height = HEIGHT, .width = WIDTH, .codel = CODEL,
+        .height = HEIGHT, .width = WIDTH, .codel = CODEL, .edition = edition,
         .map = table.map, .map_length = COUNT(table.map),
         .rows = table.rows, .rows_length = COUNT(table.rows),
         .exits = table.exits, .exits_length = COUNT(table.exits),
@@ -200,7 +203,7 @@ static void build(uint64_t *answer, size_t answer_length)
         .answer = answer, .answer_length = answer_length,
     };
     uint32_t number = piet_build(call.colours, call.colours_length, call.height, call.width, call.codel,
-                                 call.map, call.map_length, call.rows, call.rows_length,
+                                 call.edition, call.map, call.map_length, call.rows, call.rows_length,
                                  call.exits, call.exits_length, call.work, call.work_length,
                                  call.answer, call.answer_length);
     print_returned("piet_build", number, answer, answer_length);
@@ -236,6 +239,7 @@ struct run_call {
     size_t rows_length;
     const uint32_t *exits;
     size_t exits_length;
+    uint32_t edition;
     uint64_t limit;
     bool abstract_mode;
     const uint8_t *input;
@@ -250,7 +254,7 @@ struct run_call {
     size_t answer_length;
 };
 
-static void run(struct terms terms, uint64_t *answer, size_t answer_length)
+static void run(uint32_t edition, struct terms terms, uint64_t *answer, size_t answer_length)
 {
     struct room room;
     fill_room(&room);
@@ -258,14 +262,14 @@ static void run(struct terms terms, uint64_t *answer, size_t answer_length)
         .n = REGIONS,
         .rows = row_cells, .rows_length = COUNT(row_cells),
         .exits = exit_cells, .exits_length = COUNT(exit_cells),
-        .limit = terms.limit, .abstract_mode = false,
+        .edition = edition, .limit = terms.limit, .abstract_mode = false,
         .input = terms.input, .input_length = terms.input_length,
         .stack = room.stack, .stack_length = COUNT(room.stack),
         .kinds = room.kinds, .kinds_length = COUNT(room.kinds),
         .values = room.values, .values_length = COUNT(room.values),
         .answer = answer, .answer_length = answer_length,
     };
-    uint32_t number = piet_run(call.n, call.rows, call.rows_length, call.exits, call.exits_length,
+    uint32_t number = piet_run(call.n, call.rows, call.rows_length, call.exits, call.exits_length, call.edition,
                                call.limit, call.abstract_mode, call.input, call.input_length,
                                call.stack, call.stack_length, call.kinds, call.kinds_length,
                                call.values, call.values_length, call.answer, call.answer_length);
@@ -278,6 +282,7 @@ struct run_picture_call {
     size_t pixels_length, height, width;
     uint8_t setting;
     size_t codel;
+    uint32_t edition;
     uint64_t limit;
     bool abstract_mode;
     const uint8_t *input;
@@ -305,7 +310,7 @@ struct run_picture_call {
 static uint32_t pass_picture(struct run_picture_call call)
 {
     return piet_run_picture(call.pixels, call.pixels_length, call.height, call.width, call.setting, call.codel,
-                            call.limit, call.abstract_mode, call.input, call.input_length,
+                            call.edition, call.limit, call.abstract_mode, call.input, call.input_length,
                             call.colours, call.colours_length, call.map, call.map_length,
                             call.rows, call.rows_length, call.exits, call.exits_length,
                             call.work, call.work_length, call.stack, call.stack_length,
@@ -313,7 +318,7 @@ static uint32_t pass_picture(struct run_picture_call call)
                             call.answer, call.answer_length);
 }
 
-static void run_picture(struct terms terms, uint64_t *answer, size_t answer_length)
+static void run_picture(uint32_t edition, struct terms terms, uint64_t *answer, size_t answer_length)
 {
     uint8_t colours[16];
     struct table table;
@@ -324,7 +329,7 @@ static void run_picture(struct terms terms, uint64_t *answer, size_t answer_leng
     struct run_picture_call call = {
         .pixels = pixels, .pixels_length = COUNT(pixels),
         .height = HEIGHT, .width = WIDTH, .setting = PIET_UNKNOWN_BLACK, .codel = CODEL,
-        .limit = terms.limit, .abstract_mode = false,
+        .edition = edition, .limit = terms.limit, .abstract_mode = false,
         .input = terms.input, .input_length = terms.input_length,
         .colours = colours, .colours_length = COUNT(colours),
         .map = table.map, .map_length = COUNT(table.map),
@@ -403,8 +408,9 @@ static void tables(void)
     classify(PIET_UNKNOWN_BLACK, one, COUNT(one));
     label(two, COUNT(two));
     label(one, 0); /* an empty slice has a pointer too */
-    build(three, COUNT(three));
-    build(one, COUNT(one));
+    build(PIET_EDITION_RUST, three, COUNT(three));
+    build(NO_EDITION, three, COUNT(three));
+    build(PIET_EDITION_RUST, one, COUNT(one));
     forever(two, COUNT(two));
     forever(one, 0);
 }
@@ -417,12 +423,14 @@ static void runs(void)
     FILL(short_picture, 94);
     FILL(long_run, 95);
     FILL(long_picture, 96);
-    run(numbers, long_run, COUNT(long_run));
-    run(skipped, long_run, COUNT(long_run));
-    run(numbers, short_run, COUNT(short_run));
-    run_picture(numbers, long_picture, COUNT(long_picture));
-    run_picture(skipped, long_picture, COUNT(long_picture));
-    run_picture(numbers, short_picture, COUNT(short_picture));
+    run(PIET_EDITION_RUST, numbers, long_run, COUNT(long_run));
+    run(PIET_EDITION_RUST, skipped, long_run, COUNT(long_run));
+    run(NO_EDITION, numbers, long_run, COUNT(long_run));
+    run(PIET_EDITION_RUST, numbers, short_run, COUNT(short_run));
+    run_picture(PIET_EDITION_RUST, numbers, long_picture, COUNT(long_picture));
+    run_picture(PIET_EDITION_RUST, skipped, long_picture, COUNT(long_picture));
+    run_picture(NO_EDITION, numbers, long_picture, COUNT(long_picture));
+    run_picture(PIET_EDITION_RUST, numbers, short_picture, COUNT(short_picture));
 }
 
 static void files(void)

@@ -69,7 +69,7 @@ static void run_picture(struct sides sides)
 {
     const uint8_t no_input[1] = {0}; /* an empty slice has a pointer too */
     expect_done(piet_run_picture(pixels, 3 * sides.height * sides.width, sides.height, sides.width,
-                                 PIET_UNKNOWN_REFUSED, CODEL, LIMIT, false, no_input, 0,
+                                 PIET_UNKNOWN_REFUSED, CODEL, PIET_EDITION_RUST, LIMIT, false, no_input, 0,
                                  colours, sizeof colours, map, CODELS, rows, PIET_ROW * CODELS,
                                  exits, PIET_EXITS * CODELS, work, CODELS, stack, STACK, kinds, OUTPUTS,
                                  values, OUTPUTS, answer, PIET_RUN_PICTURE_ANSWER));

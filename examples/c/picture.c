@@ -22,9 +22,9 @@ static uint64_t answer[PIET_RUN_PICTURE_ANSWER];
 static uint32_t run(const uint8_t *pixels, size_t length)
 {
     const uint8_t no_input[1] = {0}; /* an empty slice has a pointer too */
-    return piet_run_picture(pixels, length, HEIGHT, WIDTH, PIET_UNKNOWN_REFUSED, CODEL, LIMIT, false, no_input, 0,
-                            colours, CODELS, map, CODELS, rows, PIET_ROW * CODELS, exits, PIET_EXITS * CODELS,
-                            work, CODELS, stack, STACK, kinds, OUTPUTS, values, OUTPUTS,
+    return piet_run_picture(pixels, length, HEIGHT, WIDTH, PIET_UNKNOWN_REFUSED, CODEL, PIET_EDITION_RUST,
+                            LIMIT, false, no_input, 0, colours, CODELS, map, CODELS, rows, PIET_ROW * CODELS,
+                            exits, PIET_EXITS * CODELS, work, CODELS, stack, STACK, kinds, OUTPUTS, values, OUTPUTS,
                             answer, PIET_RUN_PICTURE_ANSWER);
 }
 

@@ -25,8 +25,9 @@ int main(void)
     uint8_t kinds[OUTPUTS];
     int64_t stack[STACK], values[OUTPUTS];
     uint64_t answer[PIET_RUN_ANSWER];
-    uint32_t number = piet_run(1, rows, PIET_ROW, exits, PIET_EXITS, LIMIT, false, (const uint8_t *)lines,
-                               sizeof lines - 1, stack, STACK, kinds, OUTPUTS, values, OUTPUTS, answer, PIET_RUN_ANSWER);
+    uint32_t number = piet_run(1, rows, PIET_ROW, exits, PIET_EXITS, PIET_EDITION_RUST, LIMIT, false,
+                               (const uint8_t *)lines, sizeof lines - 1, stack, STACK, kinds, OUTPUTS, values, OUTPUTS,
+                               answer, PIET_RUN_ANSWER);
     if (number != PIET_DONE) {
         printf("refused %" PRIu32 "\n", number);
         return 1;

@@ -42,17 +42,18 @@ static void classify_and_build(const uint8_t *pixels, struct table *table)
     uint64_t answer[PIET_BUILD_ANSWER];
     expect_done(piet_classify(pixels, 3 * CODELS, HEIGHT, WIDTH, PIET_UNKNOWN_REFUSED, colours, CODELS, answer,
                               PIET_CLASSIFY_ANSWER));
-    expect_done(piet_build(colours, CODELS, HEIGHT, WIDTH, CODEL, table->map, CODELS, table->rows, PIET_ROW * CODELS,
-                           table->exits, PIET_EXITS * CODELS, table->work, CODELS, answer, PIET_BUILD_ANSWER));
+    expect_done(piet_build(colours, CODELS, HEIGHT, WIDTH, CODEL, PIET_EDITION_RUST, table->map, CODELS,
+                           table->rows, PIET_ROW * CODELS, table->exits, PIET_EXITS * CODELS, table->work, CODELS,
+                           answer, PIET_BUILD_ANSWER));
     table->regions = answer[0];
 }
 
 static void run_table(const struct table *table, struct run *run)
 {
     const uint8_t no_input[1] = {0}; /* an empty slice has a pointer too */
-    expect_done(piet_run(table->regions, table->rows, PIET_ROW * CODELS, table->exits, PIET_EXITS * CODELS, LIMIT, false,
-                         no_input, 0, run->stack, STACK, run->kinds, OUTPUTS, run->values, OUTPUTS, run->answer,
-                         PIET_RUN_ANSWER));
+    expect_done(piet_run(table->regions, table->rows, PIET_ROW * CODELS, table->exits, PIET_EXITS * CODELS,
+                         PIET_EDITION_RUST, LIMIT, false, no_input, 0, run->stack, STACK, run->kinds, OUTPUTS,
+                         run->values, OUTPUTS, run->answer, PIET_RUN_ANSWER));
 }
 
 int main(void)

@@ -2,7 +2,8 @@
 use crate::ended::{RUN_ANSWER, RUN_PICTURE_ANSWER};
 use crate::raw;
 use crate::{
-    Colour, Ended, Picture, PictureRoom, Pictured, Refusal, RunRoom, Shape, Table, TableRoom, Terms, Unknown,
+    Colour, Edition, Ended, Picture, PictureRoom, Pictured, Refusal, RunRoom, Shape, Table, TableRoom, Terms,
+    Unknown,
 };
 
 /// The colour numbers of pixels, three bytes each, into the first height x width cells of `colours`.
@@ -21,14 +22,14 @@ pub fn classify(
     Refusal::unless_done(number, answer)
 }
 
-/// The table of a picture of one colour number a pixel; gives the count of its regions.
+/// The table of a picture of one colour number a pixel, in an edition; gives the count of its regions.
 ///
 /// # Errors
 ///
 /// Size, Codel, Grid, Bytes, Colour, White, Room: the first that holds.
-pub fn build(colours: &[u8], shape: Shape, room: TableRoom) -> Result<usize, Refusal> {
+pub fn build(colours: &[u8], shape: Shape, edition: Edition, room: TableRoom) -> Result<usize, Refusal> {
     let mut answer = [0; 2];
-    let number = raw::build(colours, shape, room, &mut answer);
+    let number = raw::build(colours, shape, edition.number().into(), room, &mut answer);
     Refusal::unless_done(number, answer)?;
     Ok(answer[0] as usize)
 }
@@ -45,7 +46,7 @@ pub fn label(colour: Colour, (row, column): (usize, usize), out: &mut [u8]) -> R
     Ok(answer[0] as usize)
 }
 
-/// Whether every node of a table has an exit.
+/// Whether every node of a table has an exit. This is of [`Edition::Rust`]: a table with a lost slide is refused.
 ///
 /// # Errors
 ///
@@ -57,27 +58,34 @@ pub fn determine_runs_forever(table: Table) -> Result<bool, Refusal> {
     Ok(answer[0] == 1)
 }
 
-/// A run over a table.
+/// A run over a table, in an edition. The table may have been built in the other: it is run by its exits as they stand,
+/// but for a lost slide, which edition 1 refuses.
 ///
 /// # Errors
 ///
 /// Table.
-pub fn run(table: Table, terms: Terms, room: RunRoom) -> Result<Ended, Refusal> {
+pub fn run(table: Table, edition: Edition, terms: Terms, room: RunRoom) -> Result<Ended, Refusal> {
     let mut answer = [0; RUN_ANSWER];
-    let number = raw::run(table, terms, room, &mut answer);
+    let number = raw::run(table, edition.number().into(), terms, room, &mut answer);
     Refusal::unless_done(number, [0; 2])?;
     Ok(Ended::of(answer))
 }
 
-/// The run of a picture: classifying, building and running in one call.
+/// The run of a picture: classifying, building and running in one call, both of these in the same edition.
 ///
 /// # Errors
 ///
 /// Size, Bytes, Room (of the colours), Pixel, Codel, Grid, White, Room (of the table): the first that holds.
-pub fn run_picture(picture: Picture, terms: Terms, room: PictureRoom) -> Result<Pictured, Refusal> {
+pub fn run_picture(
+    picture: Picture,
+    edition: Edition,
+    terms: Terms,
+    room: PictureRoom,
+) -> Result<Pictured, Refusal> {
     let mut answer = [0; RUN_PICTURE_ANSWER];
     let Picture { pixels, shape, unknown } = picture;
-    let number = raw::run_picture((pixels, shape, unknown.number()), terms, room, &mut answer);
+    let painted = (pixels, shape, unknown.number());
+    let number = raw::run_picture(painted, edition.number().into(), terms, room, &mut answer);
     let [row, column, ..] = answer;
     Refusal::unless_done(number, [row, column])?;
     Ok(Pictured::of(answer))

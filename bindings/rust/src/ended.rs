@@ -5,7 +5,7 @@ use crate::{Cc, Dp, Pointers, Skipped};
 numbered! {
     /// Why a run stopped. At the last three the step is not taken, and everything stands as before it.
     Status {
-        /// No attempt is open.
+        /// No attempt is open, or, in [`crate::Edition::Page`], none before a lost slide.
         Completed = 1,
         /// As many steps as the limit were taken.
         MaxSteps = 2,

@@ -18,7 +18,7 @@ pub struct TableRoom<'a> {
     pub map: &'a mut [u32],
     /// Five cells a region; see [`crate::Region`].
     pub rows: &'a mut [u32],
-    /// Eight cells a region; see [`crate::Exit`].
+    /// Eight cells a region; see [`crate::Attempt`].
     pub exits: &'a mut [u32],
     /// Cells to work in, left 0.
     pub work: &'a mut [u32],

@@ -2,13 +2,14 @@
 //!
 //! Each function lends slices to the function of the same name in C (include/piet.h says what each of them gets) and
 //! gives the library's numbered refusal as an error. A refused call leaves every lent slice as it was. The rules
-//! themselves are in docs/RULES.md. [`run_pixels`] allocates the room itself:
+//! themselves are in docs/RULES.md; they have two editions ([`Edition`]). [`run_pixels`] allocates the room itself:
 //!
 //! ```
 //! let pixels = [0xFF, 0xC0, 0xC0, 0xFF, 0x00, 0x00];
 //! let picture = piet::Picture::of(&pixels, piet::Shape { height: 1, width: 2, codel: 1 });
 //! let terms = piet::Terms { limit: 3, abstract_mode: false, input: b"" };
-//! let told = piet::run_pixels(picture, terms, piet::Cells { stack: 256, outputs: 256 })?;
+//! let cells = piet::Cells { stack: 256, outputs: 256 };
+//! let told = piet::run_pixels(picture, piet::Edition::Rust, terms, cells)?;
 //! assert_eq!(told.to_string(), "status 2\nsteps 3\nat RegRed_0_1 0 0\nstack 1 1\nout 0\n");
 //! # Ok::<(), piet::Error>(())
 //! ```
@@ -18,6 +19,7 @@
 
 mod calls;
 mod colour;
+mod edition;
 mod ended;
 mod error;
 mod instruction;
@@ -36,6 +38,7 @@ mod table;
 
 pub use calls::{build, classify, determine_runs_forever, label, read_p6, run, run_picture, write_p6};
 pub use colour::{Colour, Unknown};
+pub use edition::Edition;
 pub use ended::{Ended, Pictured, Status};
 pub use error::Error;
 pub use instruction::Instruction;
@@ -48,4 +51,4 @@ pub use pixels::{run_pixels, Cells, Told};
 pub use pointers::{Cc, Dp, Pointers};
 pub use refusal::Refusal;
 pub use skipped::Skipped;
-pub use table::{Exit, Region, Table, EXITS, LABEL, ROW};
+pub use table::{Attempt, Exit, Region, Table, EXITS, LABEL, ROW};

@@ -27,7 +27,8 @@ impl Pixels {
     /// let file = b"P6\n# as a paint program saves it\n2 1\n255\n\xFF\xC0\xC0\xFF\x00\x00";
     /// let pixels = piet::Pixels::of_p6(file)?;
     /// let terms = piet::Terms { limit: 3, abstract_mode: false, input: b"" };
-    /// let told = piet::run_pixels(pixels.picture(), terms, piet::Cells { stack: 256, outputs: 256 })?;
+    /// let cells = piet::Cells { stack: 256, outputs: 256 };
+    /// let told = piet::run_pixels(pixels.picture(), piet::Edition::Rust, terms, cells)?;
     /// assert_eq!(told.to_string(), "status 2\nsteps 3\nat RegRed_0_1 0 0\nstack 1 1\nout 0\n");
     /// # Ok::<(), piet::Error>(())
     /// ```

@@ -2,7 +2,7 @@
 use crate::error::{allocated, reserved};
 use crate::numbers::proved;
 use crate::{
-    run_picture, Ended, Error, Output, Picture, PictureRoom, Region, RunRoom, Shape, Skipped, Table,
+    run_picture, Edition, Ended, Error, Output, Picture, PictureRoom, Region, RunRoom, Shape, Skipped, Table,
     TableRoom, Terms, EXITS, ROW,
 };
 use std::fmt;
@@ -65,14 +65,14 @@ impl Owned {
     }
 }
 
-/// Runs a picture in room that is allocated for it.
+/// Runs a picture in an edition, in room that is allocated for it.
 ///
 /// # Errors
 ///
 /// Memory, which is asked for first, and what [`run_picture`] refuses.
-pub fn run_pixels(picture: Picture, terms: Terms, cells: Cells) -> Result<Told, Error> {
+pub fn run_pixels(picture: Picture, edition: Edition, terms: Terms, cells: Cells) -> Result<Told, Error> {
     let mut owned = Owned::of(picture.shape, cells)?;
-    let pictured = run_picture(picture, terms, owned.lent())?;
+    let pictured = run_picture(picture, edition, terms, owned.lent())?;
     let Owned { rows, exits, mut stack, kinds, values, .. } = owned;
     let (ended, regions) = (pictured.ended, pictured.regions);
     let region = proved(Table { regions, rows: &rows, exits: &exits }.region(ended.region));

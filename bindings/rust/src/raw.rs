@@ -29,6 +29,7 @@ extern "C" {
         height: usize,
         width: usize,
         codel: usize,
+        edition: u32,
         map: *mut u32,
         map_length: usize,
         rows: *mut u32,
@@ -64,6 +65,7 @@ extern "C" {
         rows_length: usize,
         exits: *const u32,
         exits_length: usize,
+        edition: u32,
         limit: u64,
         abstract_mode: bool,
         input: *const u8,
@@ -84,6 +86,7 @@ extern "C" {
         width: usize,
         setting: u8,
         codel: usize,
+        edition: u32,
         limit: u64,
         abstract_mode: bool,
         input: *const u8,
@@ -150,7 +153,8 @@ pub fn classify(
     }
 }
 
-pub fn build(colours: &[u8], shape: Shape, room: TableRoom, answer: &mut [u64; 2]) -> u32 {
+/// The edition may have any number and the answer any length, so that wrong ones can be tried.
+pub fn build(colours: &[u8], shape: Shape, edition: u32, room: TableRoom, answer: &mut [u64]) -> u32 {
     // SAFETY: each pointer comes with the length of its slice
     unsafe {
         piet_build(
@@ -159,6 +163,7 @@ pub fn build(colours: &[u8], shape: Shape, room: TableRoom, answer: &mut [u64; 2
             shape.height,
             shape.width,
             shape.codel,
+            edition,
             room.map.as_mut_ptr(),
             room.map.len(),
             room.rows.as_mut_ptr(),
@@ -186,8 +191,8 @@ pub fn determine_runs_forever(table: Table, answer: &mut [u64; 1]) -> u32 {
     unsafe { piet_determine_runs_forever(regions, r, rows.len(), e, exits.len(), a, answer.len()) }
 }
 
-/// The answer may have any length, so that too short a one can be tried.
-pub fn run(table: Table, terms: Terms, room: RunRoom, answer: &mut [u64]) -> u32 {
+/// The edition may have any number and the answer any length, as for [`build`].
+pub fn run(table: Table, edition: u32, terms: Terms, room: RunRoom, answer: &mut [u64]) -> u32 {
     // SAFETY: each pointer comes with the length of its slice
     unsafe {
         piet_run(
@@ -196,6 +201,7 @@ pub fn run(table: Table, terms: Terms, room: RunRoom, answer: &mut [u64]) -> u32
             table.rows.len(),
             table.exits.as_ptr(),
             table.exits.len(),
+            edition,
             terms.limit,
             terms.abstract_mode,
             terms.input.as_ptr(),
@@ -215,8 +221,14 @@ pub fn run(table: Table, terms: Terms, room: RunRoom, answer: &mut [u64]) -> u32
 /// Pixels, their shape, and the setting for unknown ones by its number.
 pub type Painted<'a> = (&'a [u8], Shape, u8);
 
-/// The answer may have any length, as for [`run`].
-pub fn run_picture(picture: Painted, terms: Terms, room: PictureRoom, answer: &mut [u64]) -> u32 {
+/// The edition may have any number and the answer any length, as for [`build`].
+pub fn run_picture(
+    picture: Painted,
+    edition: u32,
+    terms: Terms,
+    room: PictureRoom,
+    answer: &mut [u64],
+) -> u32 {
     let (pixels, shape, setting) = picture;
     let PictureRoom { colours, table, run } = room;
     // SAFETY: each pointer comes with the length of its slice
@@ -228,6 +240,7 @@ pub fn run_picture(picture: Painted, terms: Terms, room: PictureRoom, answer: &m
             shape.width,
             setting,
             shape.codel,
+            edition,
             terms.limit,
             terms.abstract_mode,
             terms.input.as_ptr(),

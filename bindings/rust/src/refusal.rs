@@ -35,7 +35,7 @@ pub enum Refusal {
     /// 9: pixel (0,0) is white, and a run can't start there.
     White,
     /// 10: the table is not valid: its count of regions is 0 or above 65,536, a slice is short, a node mark is above 1,
-    /// or an exit is none or leads to a region that the table doesn't have.
+    /// or an exit is none or leads to a region that the table doesn't have. A lost slide is an exit in edition 2 alone.
     Table,
     /// 12: row or column of a label is above 1,023, or under 22 bytes are lent for it.
     Label,
@@ -43,6 +43,8 @@ pub enum Refusal {
     Header,
     /// 14: too few or too many bytes follow a P6 header.
     Length,
+    /// 15: an edition other than 1 and 2, which [`crate::Edition`] refuses to be made of.
+    Edition,
 }
 
 impl Refusal {
@@ -62,6 +64,7 @@ impl Refusal {
             Refusal::Label => 12,
             Refusal::Header => 13,
             Refusal::Length => 14,
+            Refusal::Edition => 15,
         }
     }
 
@@ -89,6 +92,7 @@ impl Refusal {
             12 => Refusal::Label,
             13 => Refusal::Header,
             14 => Refusal::Length,
+            15 => Refusal::Edition,
             _ => return None,
         })
     }
@@ -112,6 +116,7 @@ impl fmt::Display for Refusal {
             Refusal::Label => write!(f, "no such label, or under 22 bytes for it"),
             Refusal::Header => write!(f, "no P6 header, or another maximum than 255"),
             Refusal::Length => write!(f, "too few or too many bytes after the P6 header"),
+            Refusal::Edition => write!(f, "the edition is neither 1 nor 2"),
         }
     }
 }

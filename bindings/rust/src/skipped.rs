@@ -2,7 +2,8 @@
 use std::fmt;
 
 /// How many lines IntIn skipped, by the reason (rules 10.8 and 10.9 of docs/RULES.md). Each is a step that was taken, so
-/// that the sum of the four is at most the steps. In abstract mode nothing is read, and nothing counts.
+/// that the sum of the four is at most the steps. What CharIn left of a line, in [`crate::Edition::Page`], is a line. In
+/// abstract mode nothing is read, and nothing counts.
 ///
 /// The reasons that occurred are displayed with their counts, as `blank=2 out_of_range=1`:
 ///
@@ -11,7 +12,8 @@ use std::fmt;
 /// let pixels = [0xFF, 0x00, 0x00, 0xC0, 0xC0, 0xFF];
 /// let picture = piet::Picture::of(&pixels, piet::Shape { height: 1, width: 2, codel: 1 });
 /// let terms = piet::Terms { limit: 5, abstract_mode: false, input: b"seven\n\n" };
-/// let told = piet::run_pixels(picture, terms, piet::Cells { stack: 256, outputs: 256 })?;
+/// let cells = piet::Cells { stack: 256, outputs: 256 };
+/// let told = piet::run_pixels(picture, piet::Edition::Rust, terms, cells)?;
 /// let skipped = piet::Skipped { ended: 1, blank: 1, not_number: 1, out_of_range: 0 };
 /// assert_eq!(told.ended.skipped, skipped);
 /// assert_eq!(skipped.to_string(), "ended=1 blank=1 not_number=1");

@@ -12,6 +12,8 @@ pub const LABEL: usize = 22;
 const STATE: u32 = 65_536;
 /// The instructions of an exit's cell are this far apart.
 const INSTRUCTION: u32 = 8 * STATE;
+/// The cell of a lost slide, one above the largest exit.
+const LOST: u32 = 18 * INSTRUCTION + 1;
 
 /// A table of n regions; the slices may be longer than it needs.
 #[derive(Clone, Copy, Debug, PartialEq, Eq, Hash)]
@@ -30,11 +32,20 @@ impl Table<'_> {
         Region::of(*self.of_region(self.rows, number)?)
     }
 
-    /// Where a region is left to in a pointer state; none where that attempt is not open, where the table has no such
-    /// region, or where the cell is no exit.
-    pub fn exit(self, region: usize, pointers: Pointers) -> Option<Exit> {
+    /// What becomes of the attempt to leave a region in a pointer state; none where the table has no such region, or
+    /// the cell stands for nothing.
+    pub fn attempt(self, region: usize, pointers: Pointers) -> Option<Attempt> {
         let cells: &[u32; EXITS] = self.of_region(self.exits, region)?;
-        Exit::of(cells[usize::from(pointers.state())])
+        Attempt::of(cells[usize::from(pointers.state())])
+    }
+
+    /// Where a region is left to in a pointer state; none where that attempt is not open or is a lost slide, which
+    /// [`Table::attempt`] tells apart, where the table has no such region, or where the cell is no exit.
+    pub fn exit(self, region: usize, pointers: Pointers) -> Option<Exit> {
+        match self.attempt(region, pointers)? {
+            Attempt::Open(exit) => Some(exit),
+            Attempt::Shut | Attempt::Lost => None,
+        }
     }
 
     fn of_region<const N: usize>(self, cells: &[u32], region: usize) -> Option<&[u32; N]> {
@@ -88,6 +99,38 @@ impl Region {
     }
 }
 
+/// What becomes of an attempt to leave a region.
+#[derive(Clone, Copy, Debug, PartialEq, Eq, Hash)]
+pub enum Attempt {
+    /// It is not open: the next of the eight is tried.
+    Shut,
+    /// It is open.
+    Open(Exit),
+    /// It is a slide over white that is lost, in a table of [`crate::Edition::Page`] alone: a run that comes to it is
+    /// completed without a step. In [`crate::Edition::Rust`] it is shut, and a table in which it stands is refused.
+    Lost,
+}
+
+impl Attempt {
+    /// What a cell of a table's exits says; none above 9,437,185, which stands for nothing.
+    pub fn of(cell: u32) -> Option<Attempt> {
+        match cell {
+            0 => Some(Attempt::Shut),
+            LOST => Some(Attempt::Lost),
+            _ => Exit::of(cell).map(Attempt::Open),
+        }
+    }
+
+    /// The cell of this attempt: 0 where it is shut, 9,437,185 where it is a lost slide, else the exit's.
+    pub fn cell(self) -> u32 {
+        match self {
+            Attempt::Shut => 0,
+            Attempt::Open(exit) => exit.cell(),
+            Attempt::Lost => LOST,
+        }
+    }
+}
+
 /// An exit of a region: where an open attempt leads, and what the move does.
 #[derive(Clone, Copy, Debug, PartialEq, Eq, Hash)]
 pub struct Exit {
@@ -100,8 +143,8 @@ pub struct Exit {
 }
 
 impl Exit {
-    /// What a cell of a table's exits says: none for 0, an attempt that is not open, and none above 9,437,184, which
-    /// is no exit.
+    /// The exit of a cell of a table's exits: none for 0, an attempt that is not open, for 9,437,185, a lost slide, and
+    /// for what is larger; [`Attempt::of`] tells them apart.
     pub fn of(cell: u32) -> Option<Exit> {
         let exit = cell.checked_sub(1)?;
         Some(Exit {

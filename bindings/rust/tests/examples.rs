@@ -1,5 +1,5 @@
 //! The repository's examples: each job through the library, and the saved picture, gives what stands beside it.
-use piet::{run_pixels, Cells, Error, Picture, Pixels, Shape, Terms};
+use piet::{run_pixels, Cells, Edition, Error, Picture, Pixels, Shape, Terms};
 use std::fs;
 use std::path::{Path, PathBuf};
 
@@ -30,7 +30,7 @@ fn answer(job: &[u8]) -> String {
     let limit = u64::from_le_bytes(way[..8].try_into().expect("eight bytes"));
     let shape = Shape { height: side(0), width: side(2), codel: side(4) };
     let terms = Terms { limit, abstract_mode: way[8] == 1, input };
-    match run_pixels(Picture::of(&picture[6..], shape), terms, CELLS) {
+    match run_pixels(Picture::of(&picture[6..], shape), Edition::Rust, terms, CELLS) {
         Ok(told) => told.to_string(),
         Err(Error::Refused(refusal)) => format!("refused {}\n", refusal.number()),
         Err(error) => error.to_string(),
@@ -57,5 +57,6 @@ fn a_saved_picture() {
     let path = folder().join("hello.ppm");
     let pixels = Pixels::of_p6(&fs::read(&path).expect("a file")).unwrap();
     let terms = Terms { limit: 1_000, abstract_mode: false, input: b"" };
-    assert_eq!(run_pixels(pixels.picture(), terms, CELLS).unwrap().to_string(), expected(&path));
+    let told = run_pixels(pixels.picture(), Edition::Rust, terms, CELLS).unwrap();
+    assert_eq!(told.to_string(), expected(&path));
 }

@@ -1,5 +1,5 @@
 //! Memory that can't be had is an error: for lengths that no machine has, and at every single request.
-use piet::{run_pixels, Cells, Error, Picture, Pixels, Refusal, Shape, Terms};
+use piet::{run_pixels, Cells, Edition, Error, Picture, Pixels, Refusal, Shape, Terms};
 use std::alloc::{GlobalAlloc, Layout, System};
 use std::cell::Cell;
 
@@ -47,7 +47,7 @@ fn granted<T>(requests: usize, call: impl FnOnce() -> Result<T, Error>) -> Resul
 /// Eight slices and the outputs: nine requests, and each may fail.
 #[test]
 fn every_request_may_fail() {
-    let run = || run_pixels(Picture::of(&PIXELS, SHAPE), TERMS, CELLS);
+    let run = || run_pixels(Picture::of(&PIXELS, SHAPE), Edition::Rust, TERMS, CELLS);
     for requests in 0..9 {
         assert_eq!(granted(requests, run), Err(Error::Memory), "with {requests} granted");
     }
@@ -72,8 +72,9 @@ fn lengths_that_no_machine_has() {
     for cells in [usize::MAX, usize::MAX / 2, largest, largest + 1, largest - 4_096, usize::MAX / 8, 1 << 60]
     {
         let picture = Picture::of(&PIXELS, SHAPE);
-        assert_eq!(run_pixels(picture, TERMS, Cells { stack: cells, ..CELLS }), Err(Error::Memory));
-        assert_eq!(run_pixels(picture, TERMS, Cells { outputs: cells, ..CELLS }), Err(Error::Memory));
+        for cells in [Cells { stack: cells, ..CELLS }, Cells { outputs: cells, ..CELLS }] {
+            assert_eq!(run_pixels(picture, Edition::Rust, TERMS, cells), Err(Error::Memory));
+        }
     }
 }
 
@@ -92,7 +93,8 @@ fn files_longer_than_any_picture() {
 #[test]
 fn sides_that_no_picture_has() {
     let refused = |height, width, codel| {
-        run_pixels(Picture::of(&PIXELS, Shape { height, width, codel }), TERMS, CELLS).unwrap_err()
+        let picture = Picture::of(&PIXELS, Shape { height, width, codel });
+        run_pixels(picture, Edition::Rust, TERMS, CELLS).unwrap_err()
     };
     for side in [1_025, 1 << 32, usize::MAX] {
         for codel in [0, 1, usize::MAX] {

@@ -10,9 +10,9 @@ use Rattle.base.specs.Lent.{lent}
 use Rattle.base.specs.Numbers.{Numbers, numberOf, valuesOf}
 use Rattle.picture.specs.Picture.{Picture, codels}
 use Rattle.cfg.specs.declared.building.Built.{Built}
-use Rattle.cfg.specs.declared.building.Built.the-variants.{Done, Size, Codel, Grid, Bytes, Colour, White, Room}
+use Rattle.cfg.specs.declared.building.Built.the-variants.{Done, Size, Codel, Grid, Bytes, Colour, White, Room, UnknownEdition}
 use Rattle.cfg.specs.Build as building
-use Rattle.machine.specs.Machine.{Given}
+use Rattle.machine.specs.Machine.{Asks, givenOf}
 use Rattle.machine.specs.Place.{End}
 use Rattle.machine.specs.Held.{Slices, roomOf}
 use Rattle.interpreter.specs.Outcome as running
@@ -47,23 +47,24 @@ counted Codel a e w = absurd (omega arith)
 counted Grid a e w = absurd (omega arith)
 counted (Colour index) a e w = absurd (omega arith)
 counted White a e w = absurd (omega arith)
+counted UnknownEdition a e w = absurd (omega arith)
 
 -- so the table stands in the slices
-table : {p : Picture} {s s′ : TableRoom} {a a′ : List ℕ} → Exported 2 (BuildCall p s) s a 0 s′ a′
-    → building.Outcome p (s .map) (s .rows) (s .exits) (s .work) (Done (getD a′ 0 0)) (s′ .map) (s′ .rows) (s′ .exits) (s′ .work)
+table : {edition : ℕ} {p : Picture} {s s′ : TableRoom} {a a′ : List ℕ} → Exported 2 (BuildCall edition p s) s a 0 s′ a′
+    → building.Outcome edition p (s .map) (s .rows) (s .exits) (s .work) (Done (getD a′ 0 0)) (s′ .map) (s′ .rows) (s′ .exits) (s′ .work)
 table {a = a} x = let m = done-made x in rw (sym (counted (m .0) a (m .1) (m .2))) (m .3)
 
 -- `piet_build` returned 0, and `piet_run` was called with the first cell of its answer as n, on the rows and exits that it
--- wrote, with an answer that has room for a run's
-pub c-picture-follows : {p : Picture} {s s′ : TableRoom} {a a′ : List ℕ} → Exported 2 (BuildCall p s) s a 0 s′ a′
-    → (g : Given) (l : Slices) {b b′ : List ℕ} {r : ℕ} {l′ : Slices} → resultCells ≤ length b
-    → Exported resultCells (RunCall (getD a′ 0 0) (s′ .rows) (s′ .exits) g l) l b r l′ b′
-    → (e : End) × (r ≡ 0) × (b′ ≡ lent (resultOf (endedOf e)) b) × Follows p (take (codels p) (s′ .map)) g (roomOf l) e
+-- wrote, in the same edition, with an answer that has room for a run's
+pub c-picture-follows : (q : Asks) {p : Picture} {s s′ : TableRoom} {a a′ : List ℕ} → Exported 2 (BuildCall (q .edition) p s) s a 0 s′ a′
+    → (l : Slices) {b b′ : List ℕ} {r : ℕ} {l′ : Slices} → resultCells ≤ length b
+    → Exported resultCells (RunCall (getD a′ 0 0) (s′ .rows) (s′ .exits) q l) l b r l′ b′
+    → (e : End) × (r ≡ 0) × (b′ ≡ lent (resultOf (endedOf e)) b) × Follows p (take (codels p) (s′ .map)) (givenOf q) (roomOf l) e
     × (e .at .region < getD a′ 0 0) × (l′ ≡ slicesOf l (e .at .store))
 unfolding running.numbered
-c-picture-follows o g l h (short i e f w) = absurd (omega arith)
-c-picture-follows o g l {b} h (made k i (x, e, q) z w) =
-    let t = picture-follows (table o) g l q in
+c-picture-follows q o l h (short i e f w) = absurd (omega arith)
+c-picture-follows q o l {b} h (made k i (x, e, c) z w) =
+    let t = picture-follows q (table o) l c in
     let f = sym e ∙ ap running.numbered (t .1) in
     (t .0, z ∙ ap numberOf f, w ∙ ap (λ (x : Numbers). lent (valuesOf x) b) f, t .2, t .3, t .4)
 

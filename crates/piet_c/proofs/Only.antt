@@ -5,7 +5,7 @@ use Prim.Native.Nat.{ℕ, _<_, _≤_}
 use native.Mathlib.Omega.{arith}
 use Rattle.base.specs.Lent.{lent}
 use Rattle.base.specs.Numbers.{Numbers, numberOf, valuesOf}
-use Rattle.machine.specs.Machine.{Given}
+use Rattle.machine.specs.Machine.{Asks}
 use Rattle.machine.specs.Held.{Slices}
 use Rattle.interpreter.specs.Outcome as running
 use Rattle.interpreter.proofs.Only.{run-only}
@@ -55,14 +55,14 @@ labels colour row column out n n′ s s′ (r, e, o) (r′, e′, o′) =
 same-room : {s s′ : TableRoom} → s .map ≡ s′ .map → s .rows ≡ s′ .rows → s .exits ≡ s′ .exits → s .work ≡ s′ .work → s ≡ s′
 same-room a b c d = λ i. record { map = a i; rows = b i; exits = c i; work = d i }
 
-pub builds : (p : Picture) (s : TableRoom) → Settles (BuildCall p s)
-builds p s n n′ t t′ (r, e, o) (r′, e′, o′) =
+pub builds : (edition : ℕ) (p : Picture) (s : TableRoom) → Settles (BuildCall edition p s)
+builds edition p s n n′ t t′ (r, e, o) (r′, e′, o′) =
     let d = outcome-only o o′ in
     (sym e ∙ ap building.numbered (d .answer) ∙ e′, same-room (d .map-same) (d .rows-same) (d .exits-same) (d .work-same))
 
-pub runs : (k : ℕ) (rows exits : List ℕ) (g : Given) (l : Slices) → Settles (RunCall k rows exits g l)
-runs k rows exits g l n n′ s s′ (r, e, o) (r′, e′, o′) =
-    let d = run-only k rows exits g l o o′ in
+pub runs : (k : ℕ) (rows exits : List ℕ) (a : Asks) (l : Slices) → Settles (RunCall k rows exits a l)
+runs k rows exits a l n n′ s s′ (r, e, o) (r′, e′, o′) =
+    let d = run-only k rows exits a l o o′ in
     (sym e ∙ ap running.numbered (d .0) ∙ e′, d .1)
 
 pub tells : (k : ℕ) (rows exits : List ℕ) → Settles (ForeverCall k rows exits)

@@ -11,7 +11,7 @@ use Rattle.colour.specs.declared.label.Labelled.{Labelled}
 use Rattle.colour.specs.Label as labelling
 use Rattle.cfg.specs.declared.building.Built.{Built}
 use Rattle.cfg.specs.Build as building
-use Rattle.machine.specs.Machine.{Given}
+use Rattle.machine.specs.Machine.{Asks}
 use Rattle.machine.specs.Held.{Slices}
 use Rattle.interpreter.specs.declared.Ran.{Ran}
 use Rattle.interpreter.specs.declared.Forever.{Forever}
@@ -42,13 +42,13 @@ pub record TableRoom : Type 0 where
 abbrev pub tableRoom : List ℕ → List ℕ → List ℕ → List ℕ → TableRoom
 tableRoom map rows exits work = record { map = map; rows = rows; exits = exits; work = work }
 
-abbrev pub BuildCall : Picture → TableRoom → Numbers → TableRoom → Type 0
-BuildCall p s n s′ =
+abbrev pub BuildCall : ℕ → Picture → TableRoom → Numbers → TableRoom → Type 0
+BuildCall edition p s n s′ =
     (r : Built) × (building.numbered r ≡ n)
-    × building.Outcome p (s .map) (s .rows) (s .exits) (s .work) r (s′ .map) (s′ .rows) (s′ .exits) (s′ .work)
+    × building.Outcome edition p (s .map) (s .rows) (s .exits) (s .work) r (s′ .map) (s′ .rows) (s′ .exits) (s′ .work)
 
-abbrev pub RunCall : ℕ → List ℕ → List ℕ → Given → Slices → Numbers → Slices → Type 0
-RunCall n rows exits g l k l′ = (r : Ran) × (running.numbered r ≡ k) × running.Outcome n rows exits g l r l′
+abbrev pub RunCall : ℕ → List ℕ → List ℕ → Asks → Slices → Numbers → Slices → Type 0
+RunCall n rows exits a l k l′ = (r : Ran) × (running.numbered r ≡ k) × running.Outcome n rows exits a l r l′
 
 -- nothing is lent besides the answer
 abbrev pub ForeverCall : ℕ → List ℕ → List ℕ → Numbers → Unit {0} → Type 0

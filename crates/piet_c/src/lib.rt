@@ -12,12 +12,13 @@ ghost use Rattle.base.specs.Numbers.{numbers, numberOf, valuesOf};
 ghost use Rattle.picture.specs.Picture.{picture};
 ghost use Rattle.colour.specs.Label as labelling;
 ghost use Rattle.cfg.specs.Build as building;
-ghost use Rattle.machine.specs.Machine.{given};
+ghost use Rattle.machine.specs.Machine.{asks};
 ghost use Rattle.machine.specs.Held as held;
 ghost use Rattle.interpreter.specs.Outcome as running;
 ghost use Rattle.interpreter.specs.Forever as always;
 ghost use Rattle.piet_c.specs.Exported.{Exported};
 ghost use Rattle.piet_c.specs.Calls.{ClassifyCall, LabelCall, BuildCall, tableRoom, RunCall, ForeverCall};
+use base::edition::UNKNOWN_EDITION;
 use base::fill::fill_u64;
 use cfg::Built;
 use colour::classify::in_numbers;
@@ -25,7 +26,6 @@ use colour::label::Labelled;
 use interpreter::Ended;
 use interpreter::Forever;
 use interpreter::Ran;
-use machine::Terms;
 
 // An answer of one value, and of two.
 struct One {
@@ -131,6 +131,7 @@ fn of_built(r: Built) -> Two
             second: index as u64,
         },
         Built::White => plain(9),
+        Built::UnknownEdition => plain(UNKNOWN_EDITION),
     }
 }
 
@@ -188,25 +189,28 @@ pub extern "C" fn piet_label(
     told.number
 }
 
-// The table of a picture; answer: the count of regions, the index of the first colour above 19.
+// The table of a picture in an edition; answer: the count of regions, the index of the first colour above 19.
 #[no_mangle]
 pub extern "C" fn piet_build(
     colours: &[u8],
     height: usize,
     width: usize,
     codel: usize,
+    edition: u32,
     map: &mut [u32],
     rows: &mut [u32],
     exits: &mut [u32],
     work: &mut [u32],
     answer: &mut [u64],
 ) -> u32
-    ensures { λ r. ⌜ Exported 2 (BuildCall (picture height width codel (now (colours .entry))) (tableRoom (now (map .entry)) (now (rows .entry)) (now (exits .entry)) (now (work .entry)))) (tableRoom (now (map .entry)) (now (rows .entry)) (now (exits .entry)) (now (work .entry))) (now (answer .entry)) r (tableRoom (now (map .exit)) (now (rows .exit)) (now (exits .exit)) (now (work .exit))) (now (answer .exit)) ⌝ }
+    ensures { λ r. ⌜ Exported 2 (BuildCall edition (picture height width codel (now (colours .entry))) (tableRoom (now (map .entry)) (now (rows .entry)) (now (exits .entry)) (now (work .entry)))) (tableRoom (now (map .entry)) (now (rows .entry)) (now (exits .entry)) (now (work .entry))) (now (answer .entry)) r (tableRoom (now (map .exit)) (now (rows .exit)) (now (exits .exit)) (now (work .exit))) (now (answer .exit)) ⌝ }
 {
     if answer.len() < 2 {
         return 4;
     }
-    let told = of_built(cfg::build(colours, height, width, codel, map, rows, exits, work));
+    let told = of_built(cfg::build(
+        colours, height, width, codel, edition, map, rows, exits, work,
+    ));
     put_two(answer, told.first, told.second);
     told.number
 }
@@ -248,13 +252,14 @@ pub extern "C" fn piet_determine_runs_forever(
     told.number
 }
 
-// A run over a table; answer: status, steps, region, dp, cc, depth, outputs, used, and the number lines skipped: at the end of
+// A run over a table in an edition; answer: status, steps, region, dp, cc, depth, outputs, used, and the number lines skipped: at the end of
 // the input, blank, not a number, out of range.
 #[no_mangle]
 pub extern "C" fn piet_run(
     n: usize,
     rows: &[u32],
     exits: &[u32],
+    edition: u32,
     limit: u64,
     abstract_mode: bool,
     input: &[u8],
@@ -263,15 +268,22 @@ pub extern "C" fn piet_run(
     values: &mut [i64],
     answer: &mut [u64],
 ) -> u32
-    ensures { λ r. ⌜ Exported running.resultCells (RunCall n (now (rows .entry)) (now (exits .entry)) (given (record { limit = limit; «abstract_mode» = «abstract_mode» }) (now (input .entry))) (held.slices (now (stack .entry)) (now (kinds .entry)) (now (values .entry)))) (held.slices (now (stack .entry)) (now (kinds .entry)) (now (values .entry))) (now (answer .entry)) r (held.slices (now (stack .exit)) (now (kinds .exit)) (now (values .exit))) (now (answer .exit)) ⌝ }
+    ensures { λ r. ⌜ Exported running.resultCells (RunCall n (now (rows .entry)) (now (exits .entry)) (asks edition limit «abstract_mode» (now (input .entry))) (held.slices (now (stack .entry)) (now (kinds .entry)) (now (values .entry)))) (held.slices (now (stack .entry)) (now (kinds .entry)) (now (values .entry))) (now (answer .entry)) r (held.slices (now (stack .exit)) (now (kinds .exit)) (now (values .exit))) (now (answer .exit)) ⌝ }
 {
     if answer.len() < RUN_ANSWER {
         return 4;
     }
-    let terms = Terms {
+    let ran = interpreter::run(
+        n,
+        rows,
+        exits,
+        edition,
         limit,
         abstract_mode,
-    };
-    let ran = interpreter::run(n, rows, exits, terms, input, stack, kinds, values);
+        input,
+        stack,
+        kinds,
+        values,
+    );
     put_ran(answer, ran)
 }

@@ -4,7 +4,7 @@ ghost use Prim.Native.Nat.{_≤_};
 ghost use lib.ListN.{length};
 ghost use Rattle.base.specs.Lent.{lent};
 ghost use Rattle.base.specs.Numbers.{numberOf, valuesOf};
-ghost use Rattle.machine.specs.Machine.{given};
+ghost use Rattle.machine.specs.Machine.{asks};
 ghost use Rattle.piet.specs.RunPicture.{asked, lends, numbered};
 ghost use Rattle.piet_c.specs.Exported.{Exported};
 ghost use Rattle.piet_c.specs.Calls.{pictureCells, padded, PictureCall};
@@ -12,7 +12,6 @@ use crate::RUN_ANSWER;
 use crate::put_ended;
 use crate::put_two;
 use base::fill::fill_u64;
-use machine::Terms;
 use piet::run_picture::Pictured;
 use piet::run_picture::run_picture;
 
@@ -43,7 +42,7 @@ fn put_pictured(answer: &mut [u64], r: Pictured) -> u32
     }
 }
 
-// A run of a picture; answer: the values of `piet_run`, the count of regions; or row, column of the first pixel that is not in
+// A run of a picture in an edition; answer: the values of `piet_run`, the count of regions; or row, column of the first pixel that is not in
 // the table.
 #[no_mangle]
 pub extern "C" fn piet_run_picture(
@@ -52,6 +51,7 @@ pub extern "C" fn piet_run_picture(
     width: usize,
     setting: u8,
     codel: usize,
+    edition: u32,
     limit: u64,
     abstract_mode: bool,
     input: &[u8],
@@ -65,22 +65,20 @@ pub extern "C" fn piet_run_picture(
     values: &mut [i64],
     answer: &mut [u64],
 ) -> u32
-    ensures { λ r. ⌜ Exported pictureCells (PictureCall (asked (now (pixels .entry)) height width setting codel (given (record { limit = limit; «abstract_mode» = «abstract_mode» }) (now (input .entry)))) (lends (now (colours .entry)) (now (map .entry)) (now (rows .entry)) (now (exits .entry)) (now (work .entry)) (now (stack .entry)) (now (kinds .entry)) (now (values .entry)))) (lends (now (colours .entry)) (now (map .entry)) (now (rows .entry)) (now (exits .entry)) (now (work .entry)) (now (stack .entry)) (now (kinds .entry)) (now (values .entry))) (now (answer .entry)) r (lends (now (colours .exit)) (now (map .exit)) (now (rows .exit)) (now (exits .exit)) (now (work .exit)) (now (stack .exit)) (now (kinds .exit)) (now (values .exit))) (now (answer .exit)) ⌝ }
+    ensures { λ r. ⌜ Exported pictureCells (PictureCall (asked (now (pixels .entry)) height width setting codel (asks edition limit «abstract_mode» (now (input .entry)))) (lends (now (colours .entry)) (now (map .entry)) (now (rows .entry)) (now (exits .entry)) (now (work .entry)) (now (stack .entry)) (now (kinds .entry)) (now (values .entry)))) (lends (now (colours .entry)) (now (map .entry)) (now (rows .entry)) (now (exits .entry)) (now (work .entry)) (now (stack .entry)) (now (kinds .entry)) (now (values .entry))) (now (answer .entry)) r (lends (now (colours .exit)) (now (map .exit)) (now (rows .exit)) (now (exits .exit)) (now (work .exit)) (now (stack .exit)) (now (kinds .exit)) (now (values .exit))) (now (answer .exit)) ⌝ }
 {
     if answer.len() < PICTURE_ANSWER {
         return 4;
     }
-    let terms = Terms {
-        limit,
-        abstract_mode,
-    };
     let ran = run_picture(
         pixels,
         height,
         width,
         setting,
         codel,
-        terms,
+        edition,
+        limit,
+        abstract_mode,
         input,
         colours,
         map,

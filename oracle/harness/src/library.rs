@@ -21,6 +21,7 @@ extern "C" {
         height: usize,
         width: usize,
         codel: usize,
+        edition: u32,
         map: *mut u32,
         map_length: usize,
         rows: *mut u32,
@@ -59,6 +60,7 @@ extern "C" {
         rows_length: usize,
         exits: *const u32,
         exits_length: usize,
+        edition: u32,
         limit: u64,
         abstract_mode: bool,
         input: *const u8,
@@ -80,6 +82,7 @@ extern "C" {
         width: usize,
         setting: u8,
         codel: usize,
+        edition: u32,
         limit: u64,
         abstract_mode: bool,
         input: *const u8,
@@ -162,6 +165,7 @@ pub struct Lent {
 pub fn build(
     colours: &[u8],
     (height, width, codel): (usize, usize, usize),
+    edition: u32,
     lent: &mut Lent,
     answer: &mut [u64],
 ) -> u32 {
@@ -173,6 +177,7 @@ pub fn build(
             height,
             width,
             codel,
+            edition,
             lent.map.as_mut_ptr(),
             lent.map.len(),
             lent.rows.as_mut_ptr(),
@@ -226,6 +231,7 @@ pub struct Space {
 #[cfg(feature = "run")]
 pub fn run(
     table: &Table,
+    edition: u32,
     terms: &crate::machine::Terms,
     space: &mut Space,
     answer: &mut [u64],
@@ -238,6 +244,7 @@ pub fn run(
             table.rows.len(),
             table.exits.as_ptr(),
             table.exits.len(),
+            edition,
             terms.limit,
             terms.is_abstract,
             terms.input.as_ptr(),
@@ -270,7 +277,7 @@ pub struct Whole {
 pub fn run_picture(
     pixels: &[u8],
     (height, width, codel): (usize, usize, usize),
-    setting: u8,
+    (setting, edition): (u8, u32),
     terms: &crate::machine::Terms,
     lent: &mut Whole,
     answer: &mut [u64],
@@ -285,6 +292,7 @@ pub fn run_picture(
             width,
             setting,
             codel,
+            edition,
             terms.limit,
             terms.is_abstract,
             terms.input.as_ptr(),

@@ -6,6 +6,7 @@ use crate::picture::Picture;
 /// SplitMix64.
 pub struct Random(u64);
 
+const RED: u8 = 6;
 const BLACK: u8 = 18;
 const WHITE: u8 = 19;
 
@@ -47,6 +48,13 @@ const NUMBER: [&[&[u8]]; 4] = [
     &[b"", b"", b"", b"", b"", b"", b"x", b" 1", b"\xEF\xBC\x95", b"\xFF"],
 ];
 
+/// Characters of one byte and of more, numbers, line ends, and some bytes that are no text.
+const PIECES: [&[u8]; 20] = [
+    b"a", b"b ", b"5", b"12", b"-3", b"0", b" ", b"+", b"\n", b"\n", b"\n", b"\r\n", b"\xC3\xA9",
+    b"\xE2\x82\xAC", b"\xF0\x9F\x98\x80", b"\xE3\x80\x80", b"9223372036854775807",
+    b"99999999999999999999", b"7\n", b"\xC3",
+];
+
 /// Where there is none, the line goes on in the next one.
 const LINE_ENDS: [&[u8]; 7] = [b"\n", b"\n", b"\n", b"\n", b"\r\n", b"\r\n", b""];
 
@@ -82,6 +90,19 @@ impl Random {
         let mut colours = self.pixels(height as usize, width as usize, &few);
         if colours[0] == WHITE && !self.one_in(16) {
             colours[0] = self.below(WHITE as u32) as u8;
+        }
+        Picture { height, width, codel, colours }
+    }
+
+    /// As above, with so much white and black that slides are often lost.
+    pub fn pale_picture(&mut self, longest: u32) -> Picture {
+        let (height, width) = (1 + self.below(longest), 1 + self.below(longest));
+        let (codel, coloured) = (self.codel(), [self.colour(), self.colour(), self.colour()]);
+        let grounds = [&[WHITE, WHITE, BLACK][..], &[WHITE, WHITE, BLACK, BLACK], &[WHITE, BLACK]];
+        let few = [self.pick(&grounds), &coloured[self.below(3) as usize..]].concat();
+        let mut colours = self.pixels(height as usize, width as usize, &few);
+        if !self.one_in(32) {
+            colours[0] = self.pick(&[coloured[2], RED, RED, BLACK]).min(BLACK);
         }
         Picture { height, width, codel, colours }
     }
@@ -129,6 +150,11 @@ impl Random {
         let number = NUMBER.map(|part| self.pick(part)).concat();
         let middle = if self.one_in(4) { vec![] } else { number };
         [self.pick(&WHITE_SPACE), &middle, self.pick(&WHITE_SPACE), self.pick(&LINE_ENDS)].concat()
+    }
+
+    /// Pieces of lines, so that several instructions read of one.
+    pub fn shared_lines(&mut self) -> Vec<u8> {
+        (0..self.below(14)).flat_map(|_| self.pick(&PIECES)).copied().collect()
     }
 
     /// Up to twenty instructions, values often among them.

@@ -1,6 +1,6 @@
 //! What the safe calls do not show: numbers that their types rule out are refused by the archive too, and the answers of
 //! refused calls.
-use super::{classify, label, read_p6, run, run_picture, write_p6};
+use super::{build, classify, label, read_p6, run, run_picture, write_p6};
 use crate::{PictureRoom, RunRoom, Shape, Table, TableRoom, Terms, LABEL};
 
 const RED: [u8; 3] = [0xFF, 0, 0];
@@ -9,6 +9,9 @@ const ONE_PIXEL: Shape = Shape { height: 1, width: 1, codel: 1 };
 const LOOP: Table =
     Table { regions: 1, rows: &[6, 1, 0, 0, 1], exits: &[1 + 16 * 524_288, 0, 0, 0, 0, 0, 0, 0] };
 const TERMS: Terms = Terms { limit: 3, abstract_mode: false, input: b"x\n\n5" };
+
+/// Numbers that name no edition; in fewer bits some of them would.
+const NO_EDITIONS: [u32; 8] = [0, 3, 4, 257, 258, 65_537, 1 << 31, u32::MAX];
 
 /// What the run of a picture of one codel is lent.
 #[derive(Clone, Debug, PartialEq)]
@@ -49,7 +52,7 @@ fn settings_above_3() {
 fn settings_above_3_for_a_picture() {
     let asked = |shape, setting| {
         let (mut lent, mut answer) = (Lent::full(), [7; 13]);
-        let number = run_picture((&RED, shape, setting), TERMS, lent.room(), &mut answer);
+        let number = run_picture((&RED, shape, setting), 1, TERMS, lent.room(), &mut answer);
         assert_eq!((lent, answer), (Lent::full(), [0; 13]));
         number
     };
@@ -60,12 +63,39 @@ fn settings_above_3_for_a_picture() {
     }
 }
 
+/// A call that is given an edition, what it is lent, and where it answers.
+type Call<'a> = &'a dyn Fn(u32, PictureRoom, &mut [u64]) -> u32;
+
+/// The edition comes before what else is wrong, here a side, a setting and a count of regions, but for too short an answer,
+/// which comes first.
+#[test]
+fn editions_that_are_none() {
+    let (no_side, no_region) = (Shape { height: 0, ..ONE_PIXEL }, Table { regions: 0, ..LOOP });
+    let calls: [(usize, Call); 3] = [
+        (2, &|edition, room, answer| build(&[20], no_side, edition, room.table, answer)),
+        (12, &|edition, room, answer| run(no_region, edition, TERMS, room.run, answer)),
+        (13, &|edition, room, answer| run_picture((&RED, no_side, 4), edition, TERMS, room, answer)),
+    ];
+    for (cells, call) in calls {
+        for edition in NO_EDITIONS {
+            let (mut lent, mut answer) = (Lent::full(), vec![7; cells + 1]);
+            assert_eq!(call(edition, lent.room(), &mut answer[..cells - 1]), 4);
+            assert_eq!(answer, vec![7; cells + 1]);
+            assert_eq!(call(edition, lent.room(), &mut answer), 15);
+            assert_eq!((lent, answer), (Lent::full(), [vec![0; cells], vec![7]].concat()));
+        }
+        for edition in [1, 2] {
+            assert_ne!(call(edition, Lent::full().room(), &mut vec![7; cells]), 15);
+        }
+    }
+}
+
 /// A run has twelve cells for its answer: with fewer it is refused and nothing is written, and what is longer stays.
 #[test]
 fn cells_of_a_run() {
     for cells in 0..=13 {
         let (mut lent, mut answer) = (Lent::full(), vec![7; cells]);
-        let number = run(LOOP, TERMS, lent.room().run, &mut answer);
+        let number = run(LOOP, 1, TERMS, lent.room().run, &mut answer);
         if cells < 12 {
             assert_eq!((number, lent, answer), (4, Lent::full(), vec![7; cells]));
         } else {
@@ -80,7 +110,7 @@ fn cells_of_a_run() {
 fn cells_of_a_picture() {
     for cells in 0..=14 {
         let (mut lent, mut answer) = (Lent::full(), vec![7; cells]);
-        let number = run_picture((&RED, ONE_PIXEL, 1), TERMS, lent.room(), &mut answer);
+        let number = run_picture((&RED, ONE_PIXEL, 1), 1, TERMS, lent.room(), &mut answer);
         if cells < 13 {
             assert_eq!((number, lent, answer), (4, Lent::full(), vec![7; cells]));
         } else {
@@ -94,13 +124,13 @@ fn cells_of_a_picture() {
 #[test]
 fn refused_runs() {
     let (mut lent, mut answer) = (Lent::full(), [7; 13]);
-    assert_eq!(run(Table { regions: 2, ..LOOP }, TERMS, lent.room().run, &mut answer[..12]), 10);
+    assert_eq!(run(Table { regions: 2, ..LOOP }, 1, TERMS, lent.room().run, &mut answer[..12]), 10);
     assert_eq!(answer, [0, 0, 0, 0, 0, 0, 0, 0, 0, 0, 0, 0, 7]);
 
     let (mut answer, one_row) = ([7; 13], Shape { width: 2, ..ONE_PIXEL });
     lent.colours.push(7);
     let before = lent.clone();
-    assert_eq!(run_picture((b"\xFF\0\0abc", one_row, 1), TERMS, lent.room(), &mut answer), 5);
+    assert_eq!(run_picture((b"\xFF\0\0abc", one_row, 1), 1, TERMS, lent.room(), &mut answer), 5);
     assert_eq!((lent, answer), (before, [0, 1, 0, 0, 0, 0, 0, 0, 0, 0, 0, 0, 0]));
 }
 

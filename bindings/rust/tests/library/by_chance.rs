@@ -1,8 +1,8 @@
 //! Pictures by chance: one call for a picture is classifying, building and running, one after the other.
 use crate::support::{pixel, Slices, UNKNOWN};
 use piet::{
-    build, classify, run, run_picture, run_pixels, Cells, Colour, Error, Output, Picture, Pictured, Refusal,
-    Shape, Skipped, Terms, Unknown,
+    build, classify, run, run_picture, run_pixels, Attempt, Cells, Colour, Edition, Error, Output, Picture,
+    Pictured, Refusal, Shape, Skipped, Terms, Told, Unknown, ROW,
 };
 use std::collections::BTreeSet;
 
@@ -39,6 +39,7 @@ struct Question {
     pixels: Vec<u8>,
     shape: Shape,
     unknown: Unknown,
+    edition: Edition,
     limit: u64,
     abstract_mode: bool,
     input: &'static [u8],
@@ -64,6 +65,7 @@ impl Question {
             pixels: painted(shape, chance),
             shape,
             unknown: chance.one_of(&Unknown::ALL),
+            edition: chance.one_of(&Edition::ALL),
             limit: chance.below(60) as u64,
             abstract_mode: chance.once_in(4),
             input: chance.one_of(&inputs),
@@ -77,6 +79,10 @@ impl Question {
 
     fn terms(&self) -> Terms<'_> {
         Terms { limit: self.limit, abstract_mode: self.abstract_mode, input: self.input }
+    }
+
+    fn told(&self) -> Result<Told, Error> {
+        run_pixels(self.picture(), self.edition, self.terms(), self.cells)
     }
 }
 
@@ -113,9 +119,9 @@ fn in_three_calls(question: &Question, slices: &mut Slices) -> Result<Pictured, 
     let Shape { height, width, .. } = question.shape;
     classify(&question.pixels, (height, width), question.unknown, &mut slices.colours)?;
     let colours = slices.colours[..height * width].to_vec();
-    let regions = build(&colours, question.shape, slices.lent().table)?;
+    let regions = build(&colours, question.shape, question.edition, slices.lent().table)?;
     let built = slices.clone();
-    let ended = run(built.table(regions), question.terms(), slices.lent().run)?;
+    let ended = run(built.table(regions), question.edition, question.terms(), slices.lent().run)?;
     Ok(Pictured { ended, regions })
 }
 
@@ -135,7 +141,7 @@ fn a_picture_in_one_call() {
         let question = Question::by(&mut chance);
         let before = room(&question, &mut chance);
         let mut slices = before.clone();
-        let answer = run_picture(question.picture(), question.terms(), slices.lent());
+        let answer = run_picture(question.picture(), question.edition, question.terms(), slices.lent());
         assert_eq!((answer, slices), expected(&question, &before));
         met.insert(answer.map(|pictured| pictured.ended.status.number()).map_err(Refusal::number));
     }
@@ -149,7 +155,7 @@ fn a_picture_with_the_room_made() {
     let mut chance = Chance(8);
     for _ in 0..PICTURES {
         let question = Question::by(&mut chance);
-        let told = run_pixels(question.picture(), question.terms(), question.cells);
+        let told = question.told();
         let (answer, slices) = expected(&question, &Slices::of(question.shape, question.cells));
         let told = match (answer, told) {
             (Ok(pictured), Ok(told)) => (pictured, told),
@@ -162,7 +168,39 @@ fn a_picture_with_the_room_made() {
     }
 }
 
-fn told_is((Pictured { ended, regions }, told): (Pictured, piet::Told), slices: &Slices) {
+/// Where edition 1 has an exit, edition 2 has the same one, and its nodes are nodes of edition 2. Some slides are lost.
+#[test]
+fn tables_of_both_editions() {
+    let (mut chance, mut lost) = (Chance(10), 0);
+    for _ in 0..PICTURES {
+        let mut question = Question::by(&mut chance);
+        let [(of_rust, rust), (of_page, page)] = Edition::ALL.map(|edition| {
+            question.edition = edition;
+            let mut slices = Slices::of(question.shape, question.cells);
+            (in_three_calls(&question, &mut slices).map(|pictured| pictured.regions), slices)
+        });
+        assert_eq!(of_rust, of_page);
+        if of_rust.is_ok() {
+            lost += lost_slides(&rust.table, &page.table);
+        }
+    }
+    assert!(lost > 100, "{lost} slides are lost");
+}
+
+/// How many slides are lost in the table of edition 2 alone.
+fn lost_slides(rust: &[Vec<u32>; 4], page: &[Vec<u32>; 4]) -> usize {
+    let [[map, rows, exits, work], [page_map, page_rows, page_exits, page_work]] = [rust, page];
+    assert_eq!((map, work), (page_map, page_work));
+    for (row, page_row) in rows.chunks(ROW).zip(page_rows.chunks(ROW)) {
+        assert!(row[..4] == page_row[..4] && row[4] <= page_row[4]);
+    }
+    assert!(exits.iter().zip(page_exits).all(|(&exit, &page_exit)| exit == 0 || exit == page_exit));
+    let lost = |exits: &[u32]| exits.iter().filter(|&&exit| exit == Attempt::Lost.cell()).count();
+    assert_eq!(lost(exits), 0);
+    lost(page_exits)
+}
+
+fn told_is((Pictured { ended, regions }, told): (Pictured, Told), slices: &Slices) {
     assert_eq!((told.ended, told.regions), (ended, regions));
     assert_eq!(told.stack, slices.stack[..ended.depth]);
     let outputs = slices.kinds.iter().zip(&slices.values).take(ended.outputs);
@@ -180,7 +218,7 @@ fn skipped_lines() {
     let (mut chance, mut met) = (Chance(9), [0; 4]);
     for _ in 0..PICTURES {
         let question = Question::by(&mut chance);
-        let Ok(told) = run_pixels(question.picture(), question.terms(), question.cells) else { continue };
+        let Ok(told) = question.told() else { continue };
         let Skipped { ended, blank, not_number, out_of_range } = told.ended.skipped;
         let counts = [ended, blank, not_number, out_of_range];
         let most = if question.abstract_mode { 0 } else { told.ended.steps };

@@ -1,7 +1,7 @@
 //! Refusals and errors: numbers and texts.
 use piet::{Colour, Error, Refusal, Unknown};
 
-const REFUSALS: [Refusal; 13] = [
+const REFUSALS: [Refusal; 14] = [
     Refusal::Size,
     Refusal::Bytes,
     Refusal::Setting,
@@ -15,11 +15,12 @@ const REFUSALS: [Refusal; 13] = [
     Refusal::Label,
     Refusal::Header,
     Refusal::Length,
+    Refusal::Edition,
 ];
 
 #[test]
 fn numbers() {
-    assert_eq!(REFUSALS.map(Refusal::number), [1, 2, 3, 4, 5, 6, 7, 8, 9, 10, 12, 13, 14]);
+    assert_eq!(REFUSALS.map(Refusal::number), [1, 2, 3, 4, 5, 6, 7, 8, 9, 10, 12, 13, 14, 15]);
 }
 
 #[test]

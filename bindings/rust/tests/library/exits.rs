@@ -1,6 +1,6 @@
 //! Exits decoded from their cells.
 use crate::support::{built, row_of};
-use piet::{Cc, Colour, Dp, Exit, Instruction, Pointers, Region, Shape, Table, EXITS};
+use piet::{Attempt, Cc, Colour, Dp, Exit, Instruction, Pointers, Region, Shape, Table, EXITS};
 
 /// The largest cell that is an exit.
 const LARGEST: u32 = 9_437_184;
@@ -34,6 +34,21 @@ fn every_cell_both_ways() {
     assert_eq!(Exit::of(LARGEST), Some(exit(65_535, Dp::Up, Cc::Right, Instruction::IntOut)));
     for cell in 1..=LARGEST {
         assert_eq!(Exit::of(cell).map(Exit::cell), Some(cell));
+    }
+}
+
+/// 0 is shut, a cell above the largest exit is a lost slide, and those above it stand for nothing.
+#[test]
+fn attempts_both_ways() {
+    assert_eq!(Attempt::of(0), Some(Attempt::Shut));
+    assert_eq!(Attempt::of(LARGEST + 1), Some(Attempt::Lost));
+    for cell in 0..=LARGEST + 1 {
+        let attempt = Attempt::of(cell).unwrap();
+        assert_eq!(attempt.cell(), cell);
+        assert_eq!(matches!(attempt, Attempt::Open(_)), (1..=LARGEST).contains(&cell));
+    }
+    for cell in [LARGEST + 2, LARGEST + 65_537, 1 << 24, u32::MAX] {
+        assert_eq!(Attempt::of(cell), None);
     }
 }
 

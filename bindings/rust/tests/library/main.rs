@@ -1,6 +1,7 @@
 //! The library through the safe calls.
 mod by_chance;
 mod classifying;
+mod editions;
 mod errors;
 mod exits;
 mod labels;

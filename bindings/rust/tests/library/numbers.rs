@@ -1,6 +1,6 @@
 //! The enums: every value both ways, every other number refused, and the names as the archive has them.
 use crate::support::{built, classified, pixel, row_of};
-use piet::{label, Cc, Colour, Dp, Instruction, NoSuch, Pointers, Refusal, Status, Unknown, LABEL};
+use piet::{label, Cc, Colour, Dp, Edition, Instruction, NoSuch, Pointers, Refusal, Status, Unknown, LABEL};
 use std::fmt::Debug;
 
 /// The values have the numbers from `first` on, and no other number has a value.
@@ -28,6 +28,19 @@ fn every_value_both_ways() {
     both_ways(&Colour::ALL, 0, Colour::number, no_such("colour"));
     both_ways(&Instruction::ALL, 0, Instruction::number, no_such("instruction"));
     both_ways(&Status::ALL, 1, Status::number, no_such("status"));
+}
+
+/// An edition's number has 32 bits, and none of them is left out.
+#[test]
+fn editions_both_ways() {
+    assert_eq!(Edition::ALL, [Edition::Rust, Edition::Page]);
+    assert_eq!((Edition::Rust.number(), Edition::Page.number()), (1, 2));
+    for edition in Edition::ALL {
+        assert_eq!(Edition::try_from(u32::from(edition.number())), Ok(edition));
+    }
+    for none in [0, 3, 255, 256, 257, 258, 65_537, 65_538, u32::MAX] {
+        assert_eq!(Edition::try_from(none), Err(Refusal::Edition));
+    }
 }
 
 #[test]

@@ -1,7 +1,7 @@
 //! Netpbm P6 files: read, written, read back, and run.
 use crate::support::{pixel, pixels, row_of, CELLS, PATTERN, TERMS};
 use piet::{
-    read_p6, run_pixels, write_p6, Colour, Error, Picture, Pixels, Refusal, Shape, Status, P6_HEADER,
+    read_p6, run_pixels, write_p6, Colour, Edition, Error, Picture, Pixels, Refusal, Shape, Status, P6_HEADER,
 };
 
 const GOOD: &[u8] = b"P6 1 1 255\nabc";
@@ -143,10 +143,10 @@ fn a_file_that_is_run() {
     let row = [pixel(Colour::LightRed), pixel(Colour::LightRed), pixel(Colour::Red), pixel(Colour::Red)];
     let file = [&b"P6\n# drawn by hand\n4 2\n255\n"[..], &row.concat(), &row.concat()].concat();
     let drawn = Pixels::of_p6(&file).unwrap();
-    let told = run_pixels(drawn.in_codels(2), TERMS, CELLS).unwrap();
+    let told = run_pixels(drawn.in_codels(2), Edition::Rust, TERMS, CELLS).unwrap();
     assert_eq!(told.to_string(), "status 2\nsteps 3\nat RegRed_0_2 0 0\nstack 1 1\nout 0\n");
     // as codels of one pixel the first block has four of them
-    let told = run_pixels(drawn.picture(), TERMS, CELLS).unwrap();
+    let told = run_pixels(drawn.picture(), Edition::Rust, TERMS, CELLS).unwrap();
     assert_eq!((told.ended.status, told.stack), (Status::MaxSteps, vec![4]));
 }
 
@@ -154,6 +154,7 @@ fn a_file_that_is_run() {
 fn the_written_worked_job() {
     let worked = pixels(&[Colour::LightRed, Colour::Red]);
     let file = Picture::of(&worked, row_of(2)).to_p6().unwrap();
-    let told = run_pixels(Pixels::of_p6(&file).unwrap().picture(), TERMS, CELLS).unwrap();
-    assert_eq!(told, run_pixels(Picture::of(&worked, row_of(2)), TERMS, CELLS).unwrap());
+    let told = |picture| run_pixels(picture, Edition::Rust, TERMS, CELLS).unwrap();
+    let read = Pixels::of_p6(&file).unwrap();
+    assert_eq!(told(read.picture()), told(Picture::of(&worked, row_of(2))));
 }

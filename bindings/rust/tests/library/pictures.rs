@@ -1,14 +1,21 @@
 //! Runs of pictures: every status, outputs, and the refusals in their order.
 use crate::support::{pixel, pixels, row_of, Slices, CELLS, TERMS, UNKNOWN};
 use piet::{
-    run_picture, run_pixels, Cc, Cells, Colour, Dp, Error, Output, Picture, Pointers, Refusal, Shape, Status,
-    Terms, Unknown,
+    run_picture, Cc, Cells, Colour, Dp, Edition, Error, Output, Picture, Pointers, Refusal, Shape, Status,
+    Terms, Told, Unknown,
 };
 
 /// IntIn to light blue, Dup to light green, CharOut to dark yellow, IntOut to light red.
 const ECHO: [Colour; 5] =
     [Colour::Red, Colour::LightBlue, Colour::LightGreen, Colour::DarkYellow, Colour::LightRed];
 const ECHO_TERMS: Terms = Terms { limit: 4, abstract_mode: false, input: b"65\n66\n" };
+
+/// Every picture here is run alike in both editions.
+fn run_pixels(picture: Picture, terms: Terms, cells: Cells) -> Result<Told, Error> {
+    let told = piet::run_pixels(picture, Edition::Rust, terms, cells);
+    assert_eq!(piet::run_pixels(picture, Edition::Page, terms, cells), told);
+    told
+}
 
 fn echo(terms: Terms, cells: Cells) -> (Status, u64) {
     let told = run_pixels(Picture::of(&pixels(&ECHO), row_of(5)), terms, cells).unwrap();
@@ -106,8 +113,11 @@ fn refused_in_order() {
         let picture = Picture::of(pixels, shape);
         let mut slices = Slices::none();
         slices.colours.resize(colours, 7);
-        let refusal = crate::support::refused(slices, |lent| run_picture(picture, TERMS, lent));
-        assert_eq!(refusal, expected);
+        for edition in Edition::ALL {
+            let refusal =
+                crate::support::refused(slices.clone(), |lent| run_picture(picture, edition, TERMS, lent));
+            assert_eq!(refusal, expected);
+        }
         assert_eq!(run_pixels(picture, TERMS, CELLS), Err(Error::Refused(expected)));
     }
 }
@@ -118,7 +128,7 @@ fn each_slice_is_needed() {
         let mut slices = Slices::of(row_of(2), CELLS);
         shorten(&mut slices);
         let picture = Picture::of(pixels, row_of(2));
-        crate::support::refused(slices, |lent| run_picture(picture, TERMS, lent))
+        crate::support::refused(slices, |lent| run_picture(picture, Edition::Rust, TERMS, lent))
     };
     let known = pixels(&[Colour::Red, Colour::Blue]);
     let unknown = [pixel(Colour::Red), UNKNOWN].concat();

@@ -1,6 +1,6 @@
 //! A picture's pixels and codels, which the room goes by.
 use crate::support::{pixel, CELLS, TERMS};
-use piet::{run_pixels, Colour, Picture, Shape, MOST_CODELS};
+use piet::{run_pixels, Colour, Edition, Picture, Shape, MOST_CODELS};
 
 fn shape(height: usize, width: usize, codel: usize) -> Shape {
     Shape { height, width, codel }
@@ -20,7 +20,7 @@ fn accepted() {
     for (shape, pixels, codels) in cases {
         assert_eq!((shape.pixels(), shape.codels()), (pixels, codels), "{shape:?}");
         let red = pixel(Colour::Red).repeat(pixels);
-        let told = run_pixels(Picture::of(&red, shape), TERMS, CELLS).unwrap();
+        let told = run_pixels(Picture::of(&red, shape), Edition::Rust, TERMS, CELLS).unwrap();
         assert_eq!((told.regions, told.region.label()), (1, Ok("Entry".into())));
     }
 }

@@ -1,8 +1,8 @@
 //! Lines that IntIn skips: each reason, and the steps that have none.
 use crate::support::{pixels, row_of, Slices, CELLS, TERMS};
 use piet::{
-    run, run_picture, run_pixels, Cc, Cells, Colour, Dp, Ended, Exit, Instruction, Picture, Pointers,
-    Skipped, Status, Table, Terms, Told,
+    run, run_picture, run_pixels, Cc, Cells, Colour, Dp, Edition, Ended, Exit, Instruction, Picture,
+    Pointers, Skipped, Status, Table, Terms, Told,
 };
 
 const NO_STACK: Cells = Cells { stack: 0, ..CELLS };
@@ -19,7 +19,7 @@ const CHAR_IN: [Colour; 6] =
 fn along(colours: &[Colour], terms: Terms, cells: Cells) -> Told {
     let width = 1 + terms.limit as usize;
     let row: Vec<Colour> = colours.iter().copied().cycle().take(width).collect();
-    run_pixels(Picture::of(&pixels(&row), row_of(width)), terms, cells).unwrap()
+    run_pixels(Picture::of(&pixels(&row), row_of(width)), Edition::Rust, terms, cells).unwrap()
 }
 
 /// As many steps from a region to itself by IntIn.
@@ -27,7 +27,10 @@ fn around(terms: Terms, cells: Cells) -> Ended {
     let pointers = Pointers { dp: Dp::Right, cc: Cc::Left };
     let exit = Exit { target: 0, pointers, instruction: Instruction::IntIn }.cell();
     let table = Table { regions: 1, rows: &[6, 1, 0, 0, 1], exits: &[exit, 0, 0, 0, 0, 0, 0, 0] };
-    run(table, terms, Slices::of(row_of(1), cells).lent().run).unwrap()
+    let ended = |edition| run(table, edition, terms, Slices::of(row_of(1), cells).lent().run).unwrap();
+    // what IntIn takes is the same in both editions
+    assert_eq!(ended(Edition::Page), ended(Edition::Rust));
+    ended(Edition::Rust)
 }
 
 /// The end of IntIn, so many times, by a picture and by a table: they differ in the region alone.
@@ -168,7 +171,7 @@ fn characters() {
 fn in_one_call() {
     let (row, terms) = (pixels(&INT_IN), Terms { limit: 2, ..input(b"x") });
     let mut slices = Slices::of(row_of(3), CELLS);
-    let pictured = run_picture(Picture::of(&row, row_of(3)), terms, slices.lent()).unwrap();
+    let pictured = run_picture(Picture::of(&row, row_of(3)), Edition::Rust, terms, slices.lent()).unwrap();
     let one_each = Skipped { ended: 1, not_number: 1, ..Skipped::NONE };
     assert_eq!((pictured.ended.skipped, pictured.regions), (one_each, 3));
 }

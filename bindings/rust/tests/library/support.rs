@@ -1,6 +1,7 @@
 //! What several tests share: pixels, terms, and the room of a picture's run.
 use piet::{
-    Cells, Colour, PictureRoom, Refusal, RunRoom, Shape, Table, TableRoom, Terms, Unknown, EXITS, ROW,
+    Cells, Colour, Edition, PictureRoom, Refusal, RunRoom, Shape, Table, TableRoom, Terms, Unknown, EXITS,
+    ROW,
 };
 
 /// What every lent cell holds before a call, to be found again where it stays.
@@ -90,12 +91,17 @@ pub fn refused<T: std::fmt::Debug>(
     refusal
 }
 
-/// The table of a picture, with the count of its regions.
-pub fn built(colours: &[Colour], shape: Shape) -> (usize, Slices) {
+/// The table of a picture in an edition, with the count of its regions.
+pub fn built_in(edition: Edition, colours: &[Colour], shape: Shape) -> (usize, Slices) {
     let numbers: Vec<u8> = colours.iter().map(|colour| colour.number()).collect();
     let mut slices = Slices::of(shape, CELLS);
-    let regions = piet::build(&numbers, shape, slices.lent().table).expect("an accepted picture");
+    let regions = piet::build(&numbers, shape, edition, slices.lent().table).expect("an accepted picture");
     (regions, slices)
+}
+
+/// The table of a picture, with the count of its regions.
+pub fn built(colours: &[Colour], shape: Shape) -> (usize, Slices) {
+    built_in(Edition::Rust, colours, shape)
 }
 
 /// The colour number of one pixel.

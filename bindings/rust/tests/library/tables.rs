@@ -1,16 +1,23 @@
 //! Building, and runs over tables.
 use crate::support::{built, row_of, Slices, CELLS, TERMS};
-use piet::{build, determine_runs_forever, run, Colour, Refusal, Shape, Table, MOST_CODELS};
+use piet::{build, determine_runs_forever, run, Colour, Edition, Refusal, Shape, Table, MOST_CODELS};
 
-/// The refusal of building, which has to leave every slice as it was.
+/// The refusal of building, in both editions, which has to leave every slice as it was.
 fn build_refused(colours: &[u8], (height, width, codel): (usize, usize, usize), slices: Slices) -> Refusal {
-    crate::support::refused(slices, |lent| build(colours, Shape { height, width, codel }, lent.table))
+    let shape = Shape { height, width, codel };
+    let refused =
+        |edition| crate::support::refused(slices.clone(), |lent| build(colours, shape, edition, lent.table));
+    assert_eq!(refused(Edition::Page), refused(Edition::Rust));
+    refused(Edition::Rust)
 }
 
-/// The refusal of a run, which has to leave every slice as it was; asking whether it ends is refused alike.
+/// The refusal of a run, in both editions, which has to leave every slice as it was; asking whether it ends is refused
+/// alike.
 fn table_refused(table: Table) -> Refusal {
-    let refusal = crate::support::refused(Slices::of(row_of(0), CELLS), |lent| run(table, TERMS, lent.run));
-    assert_eq!(determine_runs_forever(table), Err(refusal));
+    let slices = || Slices::of(row_of(0), CELLS);
+    let refused = |edition| crate::support::refused(slices(), |lent| run(table, edition, TERMS, lent.run));
+    let refusal = refused(Edition::Rust);
+    assert_eq!((refused(Edition::Page), determine_runs_forever(table)), (refusal, Err(refusal)));
     refusal
 }
 
@@ -52,7 +59,7 @@ fn tables_refused() {
     assert_eq!(table_refused(Table { rows: &rows[..4], ..table }), Refusal::Table);
     assert_eq!(table_refused(Table { exits: &exits[..7], ..table }), Refusal::Table);
     assert_eq!(table_refused(Table { rows: &[6, 1, 0, 0, 2], ..table }), Refusal::Table);
-    for exit in [2, 9_437_185, u32::MAX] {
+    for exit in [2, 9_437_184, 9_437_186, u32::MAX] {
         assert_eq!(table_refused(Table { exits: &[0, 0, 0, 0, 0, 0, 0, exit], ..table }), Refusal::Table);
     }
 }

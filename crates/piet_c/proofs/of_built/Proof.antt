@@ -45,6 +45,12 @@ enum-told-6 c = search needs
 plain-requires-6 : tie.Need-plain-requires-6
 plain-requires-6 c κs = search needs
 
+enum-told-7 : tie.Need-enum-told-7
+enum-told-7 c = search needs
+
+plain-requires-7 : tie.Need-plain-requires-7
+plain-requires-7 c κs = search needs
+
 returns : tie.Need-returns
 returns c = rw (c .before .r .given .1)
 
@@ -69,6 +75,9 @@ returns-7 c = rw (c .before .r2 .given .1)
 returns-8 : tie.Need-returns-8
 returns-8 c = rw (c .before .enum-told6 .given .1) (c .plain6 .ensures)
 
+returns-9 : tie.Need-returns-9
+returns-9 c = rw (c .before .enum-told7 .given .1) (c .plain7 .ensures)
+
 pub of-built-spec : {M : Type 1} → statement M
 of-built-spec =
     tie.close
@@ -87,6 +96,8 @@ of-built-spec =
     enum-known-r-2
     enum-told-6
     plain-requires-6
+    enum-told-7
+    plain-requires-7
     returns
     returns-2
     returns-3
@@ -94,4 +105,5 @@ of-built-spec =
     returns-5
     returns-6
     returns-7
-    returns-8)
+    returns-8
+    returns-9)

@@ -1,6 +1,7 @@
 //! Building.
 use crate::inputs::{extremes, textures};
 use crate::timing::{fastest, line};
+use harness::editions::RUST;
 use harness::library::{self, Lent};
 use harness::picture::Picture;
 use parser::cfg::CFGBuilder;
@@ -39,5 +40,5 @@ fn lent(codels: usize) -> Lent {
 
 fn build(picture: &Picture, lent: &mut Lent) {
     let (mut answer, sides) = ([0; 2], (picture.height as usize, picture.width as usize, 1));
-    assert_eq!(library::build(&picture.colours, sides, lent, &mut answer), 0);
+    assert_eq!(library::build(&picture.colours, sides, RUST, lent, &mut answer), 0);
 }

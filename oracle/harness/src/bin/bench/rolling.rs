@@ -2,6 +2,7 @@
 use crate::inputs::rolls;
 use crate::running::table;
 use crate::timing::{both, fastest, line};
+use harness::editions::RUST;
 use harness::library::{self, Space, Table, RUN_ANSWER};
 use harness::machine::{self, interpreter, Terms};
 use harness::paint::{row_over_white, Op};
@@ -68,7 +69,7 @@ fn timed(table: &Table, limit: u64, rounds: usize) -> (f64, Vec<i64>) {
     let mut space = Space { stack: vec![0; rounds + 3], kinds: vec![], values: vec![] };
     let mut answer = [0; RUN_ANSWER];
     let seconds = fastest(|| {
-        assert_eq!(library::run(table, &terms(limit), &mut space, &mut answer), 0);
+        assert_eq!(library::run(table, RUST, &terms(limit), &mut space, &mut answer), 0);
     });
     assert_eq!([answer[1], answer[5]], [limit, rounds as u64], "each round leaves a value");
     space.stack.truncate(rounds);

@@ -1,6 +1,7 @@
 //! Runs.
 use crate::inputs::programs;
 use crate::timing::{fastest, line};
+use harness::editions::RUST;
 use harness::library::{self, Space, Table, RUN_ANSWER};
 use harness::machine::{self, Terms};
 use harness::picture::{Built, Picture};
@@ -21,7 +22,7 @@ fn run(name: &str, picture: &Picture) {
     let mut space = Space { stack: vec![0; 64], kinds: vec![0; 64], values: vec![0; 64] };
     let mut answer = [0; RUN_ANSWER];
     let ours = fastest(|| {
-        assert_eq!(library::run(&table, &terms, &mut space, &mut answer), 0);
+        assert_eq!(library::run(&table, RUST, &terms, &mut space, &mut answer), 0);
     });
     assert_eq!(answer[..2], [2, STEPS], "the run goes on to its limit");
     let rates = [rust, ours].map(|seconds| STEPS as f64 / 1e6 / seconds);

@@ -1,9 +1,12 @@
 //! Building: every small picture, pictures by chance, the largest ones, and what is refused.
 use crate::cases::{
-    bits, check, hex, over, pattern, relent, wide, without_lines, Case, Checked, Named, Outcome,
+    bits, check, hex, is_edition, over, pattern, relent, wide, without_lines, Case, Checked, Named,
+    Outcome, NO_EDITION,
 };
+use harness::editions::{self, RUST};
 use harness::library::{self, Lent};
-use harness::picture::{build, Built, Picture};
+use harness::page::LOST;
+use harness::picture::{Built, Picture};
 use harness::random::Random;
 
 const SEED: u64 = 4;
@@ -19,6 +22,7 @@ pub struct Building {
     pub height: usize,
     pub width: usize,
     pub codel: usize,
+    pub edition: u32,
     pub colours: Vec<u8>,
     /// lengths of map, rows, exits and work
     pub lent: [usize; 4],
@@ -26,7 +30,7 @@ pub struct Building {
 }
 
 pub fn compare() -> Checked {
-    let small = SIDES.into_iter().flat_map(over_five_colours);
+    let small = SIDES.into_iter().flat_map(|sides| over_colours(&FIVE, sides));
     let counts = check("build, small", small)?.and(check("build, large", large())?);
     let mut random = Random::seeded(SEED);
     Ok(counts.and(check("build, by chance", (0..BY_CHANCE).map(|_| by_chance(&mut random)))?))
@@ -34,10 +38,14 @@ pub fn compare() -> Checked {
 
 const SIDES: [(usize, usize); 8] = [(1, 1), (1, 2), (1, 3), (2, 1), (2, 2), (2, 3), (3, 1), (3, 2)];
 
-fn over_five_colours((height, width): (usize, usize)) -> impl Iterator<Item = Building> {
-    let count = height * width;
-    let colour = |word: usize, at: usize| FIVE[word / 5usize.pow(at as u32) % 5];
-    (0..5usize.pow(count as u32)).map(move |word| {
+/// Every picture of these sides over these colours.
+pub fn over_colours(
+    few: &[u8],
+    (height, width): (usize, usize),
+) -> impl Iterator<Item = Building> + '_ {
+    let (count, base) = (height * width, few.len());
+    let colour = move |word: usize, at: usize| few[word / base.pow(at as u32) % base];
+    (0..base.pow(count as u32)).map(move |word| {
         let colours = (0..count).map(|at| colour(word, at)).collect();
         Building::roomy(height, width, 1, colours, [1; 4])
     })
@@ -68,9 +76,16 @@ pub fn large() -> impl Iterator<Item = Building> {
 }
 
 fn by_chance(random: &mut Random) -> Building {
-    let Picture { height, width, codel, colours } = random.picture(LONGEST);
+    let picture = random.picture(LONGEST);
+    lent_by_chance(random, picture, RUST)
+}
+
+/// In room that is mostly ample, and with what is refused.
+pub fn lent_by_chance(random: &mut Random, picture: Picture, edition: u32) -> Building {
+    let Picture { height, width, codel, colours } = picture;
     let more = [(); 4].map(|()| random.below(4) as usize);
-    let mut case = Building::roomy(height as usize, width as usize, codel as usize, colours, more);
+    let case = Building::roomy(height as usize, width as usize, codel as usize, colours, more);
+    let mut case = Building { edition, ..case };
     while random.one_in(5) {
         spoil(&mut case, random);
     }
@@ -78,7 +93,7 @@ fn by_chance(random: &mut Random) -> Building {
 }
 
 fn spoil(case: &mut Building, random: &mut Random) {
-    match random.below(9) {
+    match random.below(10) {
         0 => case.height = random.pick(&FAR),
         1 => case.width = random.pick(&FAR),
         2 => case.codel = random.pick(&FAR),
@@ -89,6 +104,7 @@ fn spoil(case: &mut Building, random: &mut Random) {
         5 => spoil_colour(&mut case.colours, random),
         6 => spoil_first(&mut case.colours),
         7 => shorten(&mut case.lent[random.below(4) as usize], random),
+        8 => case.edition = random.pick(&NO_EDITION),
         _ => case.answer = random.below(2) as usize,
     }
 }
@@ -110,7 +126,7 @@ fn spoil_first(colours: &mut [u8]) {
 }
 
 impl Building {
-    /// With so much more than the needed room, and one answer cell more.
+    /// In the first edition, with so much more than the needed room, and one answer cell more.
     pub fn roomy(
         height: usize,
         width: usize,
@@ -118,7 +134,8 @@ impl Building {
         colours: Vec<u8>,
         more: [usize; 4],
     ) -> Self {
-        let mut case = Building { height, width, codel, colours, lent: more, answer: 3 };
+        let edition = RUST;
+        let mut case = Building { height, width, codel, edition, colours, lent: more, answer: 3 };
         let needed = needed(case.codels());
         for (length, needed) in case.lent.iter_mut().zip(needed) {
             *length += needed;
@@ -138,8 +155,11 @@ impl Building {
         Building { lent: [0, 1, 2, 3].map(length), ..other }
     }
 
-    /// The table, or the number and the place. Where the picture is one, the Rust judges it.
+    /// The table, or the number and the place. Where the picture is one, the Rust judges it, or the model.
     pub fn judged(&self) -> Result<Built, (u32, usize)> {
+        if !is_edition(self.edition) {
+            return Err((15, 0));
+        }
         let sides = 1..=1_024;
         if !sides.contains(&self.height) || !sides.contains(&self.width) {
             return Err((1, 0));
@@ -156,10 +176,7 @@ impl Building {
         if let Some(at) = self.colours.iter().position(|&c| c > 19) {
             return Err((8, at));
         }
-        let built = build(&self.picture());
-        if built.refused_white() {
-            return Err((9, 0));
-        }
+        let built = editions::table(&self.picture(), self.edition).ok_or((9, 0))?;
         let short = self.lent.iter().zip(needed(self.codels())).any(|(&has, needs)| has < needs);
         if short {
             Err((4, 0))
@@ -230,7 +247,7 @@ impl Building {
     fn found(&self) -> Outcome {
         let (mut lent, mut answer) = (self.lent(), pattern(self.answer));
         let sides = (self.height, self.width, self.codel);
-        let number = library::build(&self.colours, sides, &mut lent, &mut answer);
+        let number = library::build(&self.colours, sides, self.edition, &mut lent, &mut answer);
         outcome(number, &answer, &lent)
     }
 }
@@ -238,6 +255,12 @@ impl Building {
 impl Case for Building {
     fn outcomes(&self) -> [Outcome; 2] {
         [self.expected(), self.found()]
+    }
+
+    fn kinds(&self, expected: &Outcome) -> Vec<String> {
+        let lost = expected.list("exits").contains(&LOST.into());
+        let lost = lost.then(|| "a lost slide in the table".to_string());
+        [expected.number_returned()].into_iter().chain(lost).collect()
     }
 
     fn smaller(&self) -> impl Iterator<Item = Self> {
@@ -250,8 +273,8 @@ impl Case for Building {
     }
 
     fn shown(&self) -> String {
-        let Building { height, width, codel, lent, answer, .. } = self;
+        let Building { height, width, codel, edition, lent, answer, .. } = self;
         let colours = hex(&self.colours);
-        format!("height {height} width {width} codel {codel} colours {colours} lent {lent:?} answer {answer}")
+        format!("height {height} width {width} codel {codel} edition {edition} colours {colours} lent {lent:?} answer {answer}")
     }
 }

@@ -1,4 +1,5 @@
 //! What the parts share: an outcome as lists of numbers, and the search for a difference.
+use harness::editions::{PAGE, RUST};
 use std::collections::BTreeMap;
 use std::fmt::{Display, Formatter};
 use std::iter::{once, successors};
@@ -7,14 +8,14 @@ use std::time::{Duration, Instant};
 
 /// A case that both sides answer.
 pub trait Case: Sized {
-    /// What is expected, by the Rust or where it has no say by the rules, and what the archive makes
-    /// of it.
+    /// What is expected, by the Rust or the model or where they have no say by the rules, and what the
+    /// archive makes of it.
     fn outcomes(&self) -> [Outcome; 2];
     /// The same case with a little less to it.
     fn smaller(&self) -> impl Iterator<Item = Self>;
     fn shown(&self) -> String;
     /// What cases are counted by: the number returned, unless there is more to say.
-    fn kinds(expected: &Outcome) -> Vec<String> {
+    fn kinds(&self, expected: &Outcome) -> Vec<String> {
         vec![expected.number_returned()]
     }
 }
@@ -32,7 +33,7 @@ impl Outcome {
         &found.expect("a list of this name").1
     }
 
-    fn number_returned(&self) -> String {
+    pub fn number_returned(&self) -> String {
         format!("number {}", self.list("number")[0])
     }
 
@@ -46,6 +47,13 @@ impl Outcome {
         let status = format!("status {}", answer[0]);
         once(status).chain(reasons.map(|(reason, _)| format!("{reason} counted"))).collect()
     }
+}
+
+/// Numbers that name no edition; a narrower type would take some of them for one that does.
+pub const NO_EDITION: [u32; 8] = [0, 3, 257, 258, 65_537, 65_538, (1 << 31) + 1, u32::MAX];
+
+pub fn is_edition(number: u32) -> bool {
+    [RUST, PAGE].contains(&number)
 }
 
 /// What the cells of a run's answer from 8 on count.
@@ -92,7 +100,7 @@ pub fn check<C: Case>(name: &str, cases: impl Iterator<Item = C>) -> Checked {
         if expected != found {
             return Err(format!("{name}: case {i} differs\n{}", report(smallest(case))));
         }
-        counts = counts.and(Counts::of_one(C::kinds(&expected)));
+        counts = counts.and(Counts::of_one(case.kinds(&expected)));
         if spoke.elapsed() > PROGRESS {
             println!("{name}: {} cases so far", i + 1);
             spoke = Instant::now();
@@ -152,16 +160,18 @@ pub fn without_lines<T: Copy>(
     width: usize,
     cells: &[T],
 ) -> impl Iterator<Item = (usize, usize, Vec<T>)> + '_ {
-    let whole = cells.len() == height * width;
-    let fewer_rows = cuts(height).map(move |cut| {
+    // Sides that are not those of the cells may be of any size, and have nothing to be cut.
+    let whole = !cells.is_empty() && cells.len() == height.saturating_mul(width);
+    let (rows, columns) = if whole { (height, width) } else { (0, 0) };
+    let fewer_rows = cuts(rows).map(move |cut| {
         let kept = kept(cells, |at| !cut.contains(&(at / width)));
         (height - cut.len(), width, kept)
     });
-    let fewer_columns = cuts(width).map(move |cut| {
+    let fewer_columns = cuts(columns).map(move |cut| {
         let kept = kept(cells, |at| !cut.contains(&(at % width)));
         (height, width - cut.len(), kept)
     });
-    fewer_rows.chain(fewer_columns).filter(move |_| whole)
+    fewer_rows.chain(fewer_columns)
 }
 
 fn kept<T: Copy>(cells: &[T], keep: impl Fn(usize) -> bool) -> Vec<T> {

@@ -1,4 +1,4 @@
-//! compare: the archive against the Rust, at scale. Exits with 1 at the first difference.
+//! compare: the archive against the Rust, and against the model of the second edition, at scale. Exits with 1 at the first difference.
 #[cfg(feature = "build")]
 mod building;
 #[allow(dead_code, reason = "a part alone uses some of it")]
@@ -9,6 +9,8 @@ mod classify;
 mod forever;
 #[cfg(feature = "label")]
 mod label;
+#[cfg(feature = "page")]
+mod page;
 #[cfg(feature = "picture")]
 mod picturing;
 #[cfg(feature = "roll")]
@@ -37,6 +39,8 @@ const PARTS: &[(&str, fn() -> Checked)] = &[
     ("roll", rolling::compare),
     #[cfg(feature = "picture")]
     ("picture", picturing::compare),
+    #[cfg(feature = "page")]
+    ("page", page::compare),
 ];
 
 fn main() -> ExitCode {

@@ -1,10 +1,13 @@
 //! The whole run of a picture in one call: by chance, at the bounds, and what is refused, in its order.
 use crate::building::{self, Building, FAR};
-use crate::cases::{bits, check, over, pattern, wide, Case, Checked, Outcome};
+use crate::cases::{
+    bits, check, is_edition, over, pattern, wide, Case, Checked, Outcome, NO_EDITION,
+};
 use crate::classify::{self, blurred, Classifying};
-use crate::running::{self, longer, question, shown_terms, sooner, Longer};
+use crate::running::{self, kinds_of_end, longer, question, shown_terms, sooner, Longer};
+use harness::editions::{Left, PAGE, RUST};
 use harness::library::{self, Whole, PICTURE_ANSWER};
-use harness::machine::{Judged, Terms};
+use harness::machine::Terms;
 use harness::numbers::palette;
 use harness::picture::{Built, Picture};
 use harness::question::Question;
@@ -16,17 +19,18 @@ const LONGEST: u32 = 8;
 const RED: u8 = 6;
 const WHITE: usize = 19;
 
-type Palette = [[u8; 3]; 20];
+pub type Palette = [[u8; 3]; 20];
 
 #[derive(Clone)]
-struct Picturing {
+pub struct Picturing {
     /// the pixels with their sides and setting, and the lengths of colours and answer
     classifying: Classifying,
     codel: usize,
+    edition: u32,
     /// lengths of map, rows, exits and work
     lent: [usize; 4],
     /// the run, but for its picture, which classifying gives
-    question: Question,
+    pub question: Question,
     longer: Longer,
 }
 
@@ -39,8 +43,8 @@ pub fn compare() -> Checked {
 }
 
 /// The case of building with its colours as pixels, and a run by chance.
-fn with_a_run(random: &mut Random, building: Building, palette: &Palette) -> Picturing {
-    let Building { height, width, codel, colours, lent, .. } = building;
+pub fn with_a_run(random: &mut Random, building: Building, palette: &Palette) -> Picturing {
+    let Building { height, width, codel, edition, colours, lent, .. } = building;
     let pixels = colours.iter().flat_map(|&c| palette[c as usize]).collect();
     let room = height * width + random.below(3) as usize;
     let answer = PICTURE_ANSWER + random.below(3) as usize;
@@ -48,15 +52,25 @@ fn with_a_run(random: &mut Random, building: Building, palette: &Palette) -> Pic
     let classifying = Classifying { height, width, setting, pixels, colours: room, answer };
     let none = Picture { height: 0, width: 0, codel: 0, colours: vec![] };
     let (question, longer) = (question(random, none), longer(random));
-    Picturing { classifying, codel, lent, question, longer }
+    Picturing { classifying, codel, edition, lent, question, longer }
 }
 
 fn by_chance(random: &mut Random, palette: &Palette) -> Picturing {
     let picture = if random.one_in(8) { random.picture(LONGEST) } else { running::picture(random) };
+    lent_by_chance(random, picture, RUST, palette)
+}
+
+/// In room that is mostly ample, and with what is refused.
+pub fn lent_by_chance(
+    random: &mut Random,
+    picture: Picture,
+    edition: u32,
+    palette: &Palette,
+) -> Picturing {
     let [height, width, codel] = [picture.height, picture.width, picture.codel].map(|n| n as usize);
     let more = [(); 4].map(|()| random.below(4) as usize);
     let building = Building::roomy(height, width, codel, picture.colours, more);
-    let mut case = with_a_run(random, building, palette);
+    let mut case = with_a_run(random, Building { edition, ..building }, palette);
     blur(&mut case.classifying, random);
     while random.one_in(6) {
         spoil(&mut case, random, palette);
@@ -73,12 +87,13 @@ fn blur(case: &mut Classifying, random: &mut Random) {
 }
 
 fn spoil(case: &mut Picturing, random: &mut Random, palette: &Palette) {
-    match random.below(8) {
+    match random.below(9) {
         0..=2 => classify::spoil(&mut case.classifying, random),
         3 => case.codel = random.pick(&FAR),
         4 => over_first(&mut case.classifying.pixels, palette[WHITE]),
-        5 if random.one_in(16) => *case = with_a_run(random, too_fine(), palette),
+        5 if random.one_in(16) => *case = with_a_run(random, too_fine(case.edition), palette),
         5 | 6 => building::shorten(&mut case.lent[random.below(4) as usize], random),
+        7 => case.edition = random.pick(&NO_EDITION),
         _ => case.classifying.answer = random.below(PICTURE_ANSWER as u32) as usize,
     }
 }
@@ -90,19 +105,24 @@ fn over_first(pixels: &mut [u8], pixel: [u8; 3]) {
 }
 
 /// One row of codels too many.
-fn too_fine() -> Building {
-    Building::roomy(257, 256, 1, vec![RED; 257 * 256], [0; 4])
+fn too_fine(edition: u32) -> Building {
+    Building { edition, ..Building::roomy(257, 256, 1, vec![RED; 257 * 256], [0; 4]) }
 }
 
 impl Picturing {
     /// What building is asked once the pixels are these colours.
     fn building(&self, colours: Vec<u8>) -> Building {
         let Classifying { height, width, answer, .. } = self.classifying;
-        Building { height, width, codel: self.codel, colours, lent: self.lent, answer }
+        let Picturing { codel, edition, lent, .. } = *self;
+        Building { height, width, codel, edition, colours, lent, answer }
     }
 
-    /// The table with its picture, or the number and the place: the tests of classifying, then those of building.
+    /// The table with its picture, or the number and the place: the edition, the tests of classifying, then those of
+    /// building.
     fn judged(&self) -> Result<(Built, Picture), (u32, [usize; 2])> {
+        if !is_edition(self.edition) {
+            return Err((15, [0, 0]));
+        }
         let (number, place) = self.classifying.judged();
         if number != 0 {
             return Err((number, place));
@@ -129,15 +149,15 @@ impl Picturing {
         outcome(4, &answer, &lent)
     }
 
-    fn done(&self, built: &Built, picture: &Picture, ran: &Judged) -> Outcome {
+    fn done(&self, built: &Built, picture: &Picture, left: &Left) -> Outcome {
         let (mut lent, mut answer) = self.lent();
         if answer.len() < PICTURE_ANSWER {
             return outcome(4, &answer, &lent);
         }
         over(&picture.colours, &mut lent.colours);
         building::write(built, &mut lent.table);
-        running::write(&ran.answer, &mut lent.space);
-        over(&ran.numbers(built.region(&ran.answer.label)), &mut answer);
+        running::write(left, &mut lent.space);
+        over(&left.numbers, &mut answer);
         answer[PICTURE_ANSWER - 1] = built.rows.len() as u64;
         outcome(0, &answer, &lent)
     }
@@ -147,7 +167,8 @@ impl Picturing {
         let Classifying { height, width, setting, ref pixels, .. } = self.classifying;
         let Question { is_abstract, ref input, .. } = self.question;
         let (sides, terms) = ((height, width, self.codel), Terms { limit, is_abstract, input });
-        let number = library::run_picture(pixels, sides, setting, &terms, &mut lent, &mut answer);
+        let read = (setting, self.edition);
+        let number = library::run_picture(pixels, sides, read, &terms, &mut lent, &mut answer);
         outcome(number, &answer, &lent)
     }
 
@@ -179,13 +200,22 @@ impl Case for Picturing {
             }
             Ok(judged) => judged,
         };
+        if self.edition == PAGE {
+            let left = Left::by_page(&built.run_by_page(&self.question));
+            return [self.done(&built, &picture, &left), self.found(self.question.limit)];
+        }
         let ran = self.question.judged(&built);
         let limit = if ran.panic.is_some() { ran.answer.steps } else { self.question.limit };
-        [self.done(&built, &picture, &ran), self.found(limit)]
+        [self.done(&built, &picture, &Left::by_rust(&built, &ran)), self.found(limit)]
     }
 
-    fn kinds(expected: &Outcome) -> Vec<String> {
-        expected.kinds_of_run()
+    fn kinds(&self, expected: &Outcome) -> Vec<String> {
+        let mut kinds = expected.kinds_of_run();
+        if expected.list("number") == [0] && self.edition == PAGE {
+            let built = self.judged().into_iter().map(|(built, _)| built);
+            kinds.extend(built.flat_map(|b| kinds_of_end(&b.run_by_page(&self.question))));
+        }
+        kinds
     }
 
     fn smaller(&self) -> impl Iterator<Item = Self> {
@@ -197,8 +227,8 @@ impl Case for Picturing {
     }
 
     fn shown(&self) -> String {
-        let Picturing { classifying, codel, lent, question, longer } = self;
+        let Picturing { classifying, codel, edition, lent, question, longer } = self;
         let (pixels, terms) = (classifying.shown(), shown_terms(question));
-        format!("{pixels} codel {codel} table {lent:?} {terms} longer {longer:?}")
+        format!("{pixels} codel {codel} edition {edition} table {lent:?} {terms} longer {longer:?}")
     }
 }

@@ -1,8 +1,12 @@
 //! The run: by chance, in lent room by chance, and what is refused.
-use crate::cases::{bits, check, hex, over, pattern, wide, Case, Checked, Named, Outcome};
+use crate::cases::{
+    bits, check, hex, is_edition, over, pattern, wide, Case, Checked, Named, Outcome, NO_EDITION,
+};
 use crate::tables::{shown_picture, smaller_pictures, Spoil};
-use harness::library::{self, Space, RUN_ANSWER};
-use harness::machine::{Answer, Judged, Output, Room, Terms};
+use harness::editions::{self, Editions, Left, PAGE, RUST};
+use harness::library::{self, Space, Table, RUN_ANSWER};
+use harness::machine::{Room, Terms};
+use harness::page::{self, End};
 use harness::paint::{row, row_over_white};
 use harness::picture::{build, Built, Picture};
 use harness::question::Question;
@@ -15,6 +19,7 @@ const LONGEST: u32 = 8;
 #[derive(Clone)]
 pub struct Running {
     question: Question,
+    editions: Editions,
     spoil: Spoil,
     longer: Longer,
     answer: usize,
@@ -31,11 +36,17 @@ pub fn compare() -> Checked {
 fn by_chance(random: &mut Random) -> Running {
     let picture = picture(random);
     let question = question(random, picture);
+    let run = if random.one_in(64) { random.pick(&NO_EDITION) } else { RUST };
+    lent_by_chance(random, question, Editions { build: RUST, run })
+}
+
+/// Over a table that may be spoilt, in slices that are mostly long enough.
+pub fn lent_by_chance(random: &mut Random, question: Question, editions: Editions) -> Running {
     let spoil = if random.one_in(16) { Spoil::by_chance(random) } else { Spoil::None };
     let longer = longer(random);
     let enough = RUN_ANSWER as u32;
     let answer = if random.one_in(64) { random.below(enough) } else { enough + random.below(3) };
-    Running { question, spoil, longer, answer: answer as usize }
+    Running { question, editions, spoil, longer, answer: answer as usize }
 }
 
 /// A run of this picture, on terms and in room by chance.
@@ -69,7 +80,7 @@ pub fn picture(random: &mut Random) -> Picture {
 }
 
 /// A run needs an entry that is not white.
-fn entered(picture: Picture) -> Picture {
+pub fn entered(picture: Picture) -> Picture {
     let mut colours = picture.colours;
     colours[0] = if colours[0] == 19 { 6 } else { colours[0] };
     Picture { colours, ..picture }
@@ -86,22 +97,14 @@ pub fn space(room: &Room, longer: Longer) -> Space {
 }
 
 /// What a run leaves: every cell past the depth or the outputs is 0.
-pub fn write(a: &Answer, space: &mut Space) {
-    let bottom_first: Vec<i64> = a.stack.iter().rev().copied().collect();
-    let (kinds, values): (Vec<u8>, Vec<i64>) = a.outputs.iter().map(kind_and_value).unzip();
+pub fn write(left: &Left, space: &mut Space) {
+    let (kinds, values): (Vec<u8>, Vec<i64>) = left.outputs.iter().copied().unzip();
     space.stack.fill(0);
     space.kinds.fill(0);
     space.values.fill(0);
-    over(&bottom_first, &mut space.stack);
+    over(&left.stack, &mut space.stack);
     over(&kinds, &mut space.kinds);
     over(&values, &mut space.values);
-}
-
-fn kind_and_value(output: &Output) -> (u8, i64) {
-    match *output {
-        Output::Char(c) => (1, c),
-        Output::Int(i) => (2, i),
-    }
 }
 
 fn outcome(number: u32, answer: &[u64], space: &Space) -> Outcome {
@@ -118,47 +121,91 @@ impl Running {
     /// In slices that are just as long as asked for, and nothing spoilt.
     #[cfg(feature = "roll")]
     pub fn plain(question: Question) -> Self {
-        Running { question, spoil: Spoil::None, longer: [0, 0], answer: RUN_ANSWER }
+        let editions = Editions { build: RUST, run: RUST };
+        Running { question, editions, spoil: Spoil::None, longer: [0, 0], answer: RUN_ANSWER }
     }
 
     fn space(&self) -> Space {
         space(&self.question.room, self.longer)
     }
 
-    fn expected(&self, built: &Built, ran: &Judged) -> Outcome {
+    fn built(&self) -> Built {
+        let built = editions::table(&self.question.picture, self.editions.build);
+        built.expect("an entry that is not white")
+    }
+
+    /// What the run leaves, or the number of its refusal, and the limit up to which it is asked.
+    fn judged(&self, built: &Built, table: &Table) -> (Result<Left, u32>, u64) {
+        let limit = self.question.limit;
+        match self.editions.run {
+            // An exit of a lost slide is above the first edition's largest, whatever is spoilt besides.
+            RUST if self.spoil.refused() || built.has_lost() => (Err(10), limit),
+            RUST => self.by_rust(built),
+            PAGE => (self.by_page(table).map(|end| Left::by_page(&end)).ok_or(10), limit),
+            _ => (Err(15), limit),
+        }
+    }
+
+    /// Where the Rust panics and the rules choose, the run is asked up to there only. A table of the second edition without a
+    /// lost slide is the Rust's, and the Rust runs over its own.
+    fn by_rust(&self, built: &Built) -> (Result<Left, u32>, u64) {
+        let own = (self.editions.build != RUST).then(|| build(&self.question.picture));
+        let built = own.as_ref().unwrap_or(built);
+        let ran = self.question.judged(built);
+        let limit = if ran.panic.is_some() { ran.answer.steps } else { self.question.limit };
+        (Ok(Left::by_rust(built, &ran)), limit)
+    }
+
+    fn by_page(&self, table: &Table) -> Option<End> {
+        page::run_table(table.n, &table.rows, &table.exits, &self.question.page_terms())
+    }
+
+    fn expected(&self, judged: &Result<Left, u32>) -> Outcome {
         let (mut space, mut answer) = (self.space(), pattern(self.answer));
         if answer.len() < RUN_ANSWER {
             return outcome(4, &answer, &space);
         }
-        if self.spoil.refused() {
-            over(&[0; RUN_ANSWER], &mut answer);
-            return outcome(10, &answer, &space);
+        match judged {
+            Err(number) => {
+                over(&[0; RUN_ANSWER], &mut answer);
+                outcome(*number, &answer, &space)
+            }
+            Ok(left) => {
+                over(&left.numbers, &mut answer);
+                write(left, &mut space);
+                outcome(0, &answer, &space)
+            }
         }
-        over(&ran.numbers(built.region(&ran.answer.label)), &mut answer);
-        write(&ran.answer, &mut space);
-        outcome(0, &answer, &space)
     }
 
-    fn found(&self, built: &Built, limit: u64) -> Outcome {
+    fn found(&self, table: &Table, limit: u64) -> Outcome {
         let (mut space, mut answer) = (self.space(), pattern(self.answer));
         let Question { is_abstract, ref input, .. } = self.question;
-        let (table, terms) = (self.spoil.applied_to(built), Terms { limit, is_abstract, input });
-        let number = library::run(&table, &terms, &mut space, &mut answer);
+        let terms = Terms { limit, is_abstract, input };
+        let number = library::run(table, self.editions.run, &terms, &mut space, &mut answer);
         outcome(number, &answer, &space)
     }
 }
 
 impl Case for Running {
-    /// Where the Rust panics and the rules choose, the run is asked up to there only.
     fn outcomes(&self) -> [Outcome; 2] {
-        let built = build(&self.question.picture);
-        let ran = self.question.judged(&built);
-        let limit = if ran.panic.is_some() { ran.answer.steps } else { self.question.limit };
-        [self.expected(&built, &ran), self.found(&built, limit)]
+        let built = self.built();
+        let table = self.spoil.applied_to(&built);
+        let (judged, limit) = self.judged(&built, &table);
+        [self.expected(&judged), self.found(&table, limit)]
     }
 
-    fn kinds(expected: &Outcome) -> Vec<String> {
-        expected.kinds_of_run()
+    fn kinds(&self, expected: &Outcome) -> Vec<String> {
+        let mut kinds = expected.kinds_of_run();
+        let Editions { build, run } = self.editions;
+        if is_edition(run) && (build, run) != (RUST, RUST) {
+            kinds.push(format!("built by {build} and run by {run}"));
+        }
+        if expected.list("number") == [0] && self.editions.run == PAGE {
+            let end = self.by_page(&self.spoil.applied_to(&self.built()));
+            kinds.extend(end.iter().flat_map(kinds_of_end));
+        }
+        kinds
     }
 
     fn smaller(&self) -> impl Iterator<Item = Self> {
@@ -170,10 +217,17 @@ impl Case for Running {
     }
 
     fn shown(&self) -> String {
-        let Running { question, spoil, longer, answer } = self;
+        let Running { question, editions: Editions { build, run }, spoil, longer, answer } = self;
         let (picture, terms) = (shown_picture(&question.picture), shown_terms(question));
-        format!("{picture} {terms} longer {longer:?} spoil {spoil:?} answer {answer}")
+        format!("{picture} editions {build} {run} {terms} longer {longer:?} spoil {spoil:?} answer {answer}")
     }
+}
+
+/// What a run of the model has met: the slide that ended it, and the first thing that the first edition does otherwise.
+pub fn kinds_of_end(end: &End) -> Vec<String> {
+    let lost = end.lost.then(|| "a lost slide reached".to_string());
+    let parting = end.parting.map(|(_, what)| format!("{what} as the first parting"));
+    lost.into_iter().chain(parting).collect()
 }
 
 /// The question with one step or one byte of input less.

@@ -1,6 +1,7 @@
 //! Tables for the run and for `determine_runs_forever`, as built and spoiled, and their pictures.
 use crate::cases::{hex, without_lines};
 use harness::library::Table;
+use harness::page::LOST;
 use harness::picture::{Built, Picture};
 use harness::random::Random;
 
@@ -17,9 +18,12 @@ pub enum Spoil {
     Target(usize),
     /// no row is marked as a node any more, which a run does not look at
     Unmarked,
-    /// cells after the table, which nobody looks at
-    After,
+    /// cells of this number after the table, which nobody looks at
+    After(u32),
 }
+
+/// An exit to the last of 65,536 regions, that of a lost slide, which the second edition takes, and what neither does.
+const EXITS: [u32; 6] = [LOST - 1, LOST, LOST, LOST + 1, 9_502_720, u32::MAX];
 
 impl Spoil {
     pub fn by_chance(random: &mut Random) -> Self {
@@ -29,15 +33,16 @@ impl Spoil {
             1 => Spoil::ShortRows(1 + random.below(5) as usize),
             2 => Spoil::ShortExits(1 + random.below(8) as usize),
             3 => Spoil::Mark(at, random.pick(&[2, 3, u32::MAX])),
-            4 => Spoil::Exit(at, random.pick(&[9_437_185, 9_502_720, u32::MAX])),
+            4 => Spoil::Exit(at, random.pick(&EXITS)),
             5 => Spoil::Target(at),
             6 => Spoil::Unmarked,
-            _ => Spoil::After,
+            _ => Spoil::After(random.pick(&EXITS)),
         }
     }
 
+    /// Whether the first edition refuses a table of its own that is spoilt like this.
     pub fn refused(self) -> bool {
-        !matches!(self, Spoil::None | Spoil::Unmarked | Spoil::After)
+        !matches!(self, Spoil::None | Spoil::Unmarked | Spoil::After(_))
     }
 
     pub fn applied_to(self, built: &Built) -> Table {
@@ -59,9 +64,9 @@ impl Spoil {
             Spoil::Exit(at, exit) => exits[at % (8 * *n)] = exit,
             Spoil::Target(at) => exits[at % (8 * *n)] = 1 + *n as u32,
             Spoil::Unmarked => (0..*n).for_each(|r| rows[5 * r + 4] = 0),
-            Spoil::After => {
-                rows.extend([u32::MAX; 5]);
-                exits.extend([u32::MAX; 8]);
+            Spoil::After(cell) => {
+                rows.extend([cell; 5]);
+                exits.extend([cell; 8]);
             }
         }
     }

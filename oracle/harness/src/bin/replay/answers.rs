@@ -1,24 +1,44 @@
 //! The lines of tables and runs: words with one space between them.
-use harness::machine::{Judged, Output};
-use harness::picture::{build, Picture};
+use crate::records::{Asked, Job};
+use harness::editions::{self, Editions, Left, PAGE, RUST};
 use harness::question::Question;
 use std::fmt::Display;
 
-pub fn table(picture: &Picture) -> String {
-    let built = build(picture);
-    if built.refused_white() {
-        return "refused 9\n".into();
-    }
+pub fn table(asked: &Asked) -> String {
+    let Some(built) = editions::table(&asked.picture, asked.edition) else {
+        return refused(9);
+    };
     let (rows, exits) = (built.rows.as_flattened(), built.exits.as_flattened());
     sections([&[built.rows.len() as u32], &built.map, rows, exits])
 }
 
+fn refused(number: u32) -> String {
+    format!("refused {number}\n")
+}
+
+/// A run in the second edition is the model's, over the table of either. One in the first is the Rust's, over a table of the
+/// second too where there is no lost slide in it, as it is the same table then.
+pub fn run(job: &Job) -> Result<String, String> {
+    let Job { editions: Editions { build, run }, question } = job;
+    let table = |edition: u32| editions::table(&question.picture, edition);
+    let built = table(*build).ok_or("a first pixel is white")?;
+    if *run == PAGE {
+        return Ok(run_line(&Left::by_page(&built.run_by_page(question))));
+    }
+    if built.has_lost() {
+        return Ok(refused(10));
+    }
+    let same = table(RUST).is_some_and(|t| (t.rows, t.exits) == (built.rows, built.exits));
+    assert!(same, "tables without a lost slide are the same");
+    run_by_rust(question)
+}
+
 /// The Rust has to have an answer, if need be to the same question by the residue.
-pub fn run(question: &Question) -> Result<String, String> {
+fn run_by_rust(question: &Question) -> Result<String, String> {
     let (built, judged) = question.asked().ok_or("a first pixel is white")?;
     match (&judged.panic, by_residue(question)) {
-        (None, _) => Ok(run_line(built.region(&judged.answer.label), &judged)),
-        (Some(_), Some(question)) => run(&question),
+        (None, _) => Ok(run_line(&Left::by_rust(&built, &judged))),
+        (Some(_), Some(question)) => run_by_rust(&question),
         (Some(text), None) => Err(format!("the Rust panics: {text}")),
     }
 }
@@ -34,17 +54,12 @@ fn by_residue(question: &Question) -> Option<Question> {
     Some(Question { input, ..question.clone() })
 }
 
-fn run_line(region: usize, ran: &Judged) -> String {
-    let numbers = ran.numbers(region).map(|n| n as i64);
-    let pairs: Vec<[i64; 2]> = ran.answer.outputs.iter().map(kind_and_value).collect();
-    sections([&numbers[..], &ran.answer.stack, pairs.as_flattened()])
-}
-
-fn kind_and_value(output: &Output) -> [i64; 2] {
-    match *output {
-        Output::Char(c) => [1, c],
-        Output::Int(i) => [2, i],
-    }
+fn run_line(left: &Left) -> String {
+    let numbers = left.numbers.map(|n| n as i64);
+    let top_first: Vec<i64> = left.stack.iter().rev().copied().collect();
+    let pairs: Vec<[i64; 2]> =
+        left.outputs.iter().map(|&(kind, value)| [kind.into(), value]).collect();
+    sections([&numbers[..], &top_first, pairs.as_flattened()])
 }
 
 /// A line with a colon between two lists of numbers, each of which may be empty.

@@ -1,4 +1,4 @@
-//! The run questions that are replayed. Those that the Rust does not answer are left out, but for one deep Roll, which it
+//! The run questions of the first edition that are replayed. Those that the Rust does not answer are left out, but for one deep Roll, which it
 //! answers by the residue.
 use crate::skipping;
 use harness::machine::Room;
@@ -12,7 +12,7 @@ const SEED: u64 = 2;
 const BY_CHANCE: usize = 250;
 const LONGEST: u32 = 7;
 
-const INSTRUCTIONS: [Instruction; 17] = [
+pub const INSTRUCTIONS: [Instruction; 17] = [
     Push, Pop, Add, Sub, Mul, Div, Mod, Not, Gt, Ptr, Swi, Dup, Roll, CharIn, CharOut, IntIn,
     IntOut,
 ];
@@ -68,7 +68,7 @@ fn depths() -> Vec<Question> {
 }
 
 /// Numbers that are read and then met by these instructions.
-fn on_numbers(numbers: &[i64], then: &[Instruction], more: usize) -> Question {
+pub fn on_numbers(numbers: &[i64], then: &[Instruction], more: usize) -> Question {
     let input: String = numbers.iter().map(|n| format!("{n}\n")).collect();
     let read = vec![IntIn; numbers.len()];
     program(&ops(&[&read, then].concat()), more, input.as_bytes())

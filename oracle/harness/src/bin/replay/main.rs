@@ -1,15 +1,18 @@
-//! Writes what the test programs that replay the Rust's answers have to print.
+//! Writes what the test programs that replay the Rust's answers, and the model's, have to print.
 mod answers;
 mod jobs;
+mod page_jobs;
+mod page_pictures;
 mod pictures;
 mod programs;
 mod questions;
 mod records;
 mod skipping;
 
+use harness::editions::{Editions, PAGE, RUST};
 use harness::lines::{char_in, int_in};
 use harness::numbers::{classify, decode, palette};
-use records::{picture_record, question_record, read_all, Reader};
+use records::{read_all, Asked, Job, Reader};
 use std::io::{stdout, Write};
 use std::process::ExitCode;
 
@@ -25,9 +28,9 @@ fn main() -> ExitCode {
         ["colours"] => Ok(colours().into_bytes()),
         ["questions"] => Ok(questions::records()),
         ["lines", file] => lines(file).map(String::into_bytes),
-        ["pictures"] => Ok(pictures::pictures().iter().flat_map(picture_record).collect()),
+        ["pictures"] => Ok(tables_asked().iter().flat_map(Asked::record).collect()),
         ["tables", file] => tables(file).map(String::into_bytes),
-        ["jobs"] => Ok(jobs::jobs().iter().flat_map(question_record).collect()),
+        ["jobs"] => Ok(runs_asked().iter().flat_map(Job::record).collect()),
         ["runs", file] => runs(file).map(String::into_bytes),
         ["programs"] => Ok(programs::records()),
         ["printed", file] => printed(file).map(String::into_bytes),
@@ -82,12 +85,26 @@ fn lines(file: &str) -> Result<String, String> {
     Ok(questions::read(&contents(file)?)?.into_iter().map(line).collect())
 }
 
+/// The tables of the first edition, and after them those of the second.
+fn tables_asked() -> Vec<Asked> {
+    let by = |edition: u32| move |picture| Asked { edition, picture };
+    let (rust, page) = (pictures::pictures().into_iter(), page_pictures::pictures().into_iter());
+    rust.map(by(RUST)).chain(page.map(by(PAGE))).collect()
+}
+
 fn tables(file: &str) -> Result<String, String> {
-    Ok(read_all(&contents(file)?, Reader::picture)?.iter().map(answers::table).collect())
+    Ok(read_all(&contents(file)?, Reader::asked)?.iter().map(answers::table).collect())
+}
+
+/// The runs of the first edition, and after them those of the second and of both.
+fn runs_asked() -> Vec<Job> {
+    let editions = Editions { build: RUST, run: RUST };
+    let rust = jobs::jobs().into_iter().map(|question| Job { editions, question });
+    rust.chain(page_jobs::jobs()).collect()
 }
 
 fn runs(file: &str) -> Result<String, String> {
-    read_all(&contents(file)?, Reader::question)?.iter().map(answers::run).collect()
+    read_all(&contents(file)?, Reader::job)?.iter().map(answers::run).collect()
 }
 
 fn printed(file: &str) -> Result<String, String> {

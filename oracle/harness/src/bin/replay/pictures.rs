@@ -1,4 +1,4 @@
-//! The pictures whose tables are replayed.
+//! The pictures whose tables by the first edition are replayed.
 use harness::paint::drawn;
 use harness::picture::Picture;
 use harness::random::Random;
@@ -18,7 +18,8 @@ pub fn pictures() -> Vec<Picture> {
     all.extend(slides());
     all.extend(apart_from_the_page());
     all.extend((6..=10).flat_map(spirals));
-    all.extend(small());
+    // Red, light red, white, black.
+    all.extend(small(&[6, 12, 19, 18]));
     let mut random = Random::seeded(SEED);
     all.extend((0..BY_CHANCE).map(|_| random.picture(LONGEST)));
     all
@@ -81,7 +82,7 @@ fn shapes() -> Vec<Picture> {
 }
 
 /// White fields that are left by turning, or not at all.
-fn slides() -> Vec<Picture> {
+pub fn slides() -> Vec<Picture> {
     let drawings: [&[&str]; 12] = [
         &["r..", "##y"],
         &["r..", "##.", "y.."],
@@ -101,7 +102,7 @@ fn slides() -> Vec<Picture> {
 
 /// The pictures of docs/DIFFERENCES.md on which the slide of the page ends otherwise: those with an eighth turn, in a run
 /// or in an exit alone, and those with another attempt after a slide that is lost.
-fn apart_from_the_page() -> Vec<Picture> {
+pub fn apart_from_the_page() -> Vec<Picture> {
     let drawings: [&[&str]; 9] = [
         &["r.#", "r..", "#..", "#.#", "..r"],
         &["r..", "b#."],
@@ -118,7 +119,7 @@ fn apart_from_the_page() -> Vec<Picture> {
 
 /// A white path with so many turns to the right, between black walls, to a yellow codel; entered to
 /// the right, downward, and in codels of width 2 that the sides cut.
-fn spirals(turns: usize) -> [Picture; 3] {
+pub fn spirals(turns: usize) -> [Picture; 3] {
     let side = turns + 3;
     let mut cells = vec![vec![18; side]; side];
     let path = spiral_path(turns, side);
@@ -152,16 +153,16 @@ fn spiral_path(turns: usize, side: usize) -> Vec<(usize, usize)> {
     path
 }
 
-/// Every picture of sides up to 2 over red, light red, white and black.
-fn small() -> Vec<Picture> {
+/// Every picture of sides up to 2 over these colours.
+pub fn small(colours: &[u8]) -> Vec<Picture> {
     let sides = [(1, 1), (1, 2), (2, 1), (2, 2)];
-    sides.into_iter().flat_map(|(height, width)| over_four_colours(height, width)).collect()
+    sides.into_iter().flat_map(|(height, width)| over(colours, height, width)).collect()
 }
 
-fn over_four_colours(height: u32, width: u32) -> impl Iterator<Item = Picture> {
-    let count = height * width;
-    let colour = |word: u32, at: u32| [6, 12, 19, 18][(word >> (2 * at)) as usize % 4];
-    (0..1 << (2 * count)).map(move |word| {
+fn over(few: &[u8], height: u32, width: u32) -> impl Iterator<Item = Picture> + '_ {
+    let (count, base) = (height * width, few.len());
+    let colour = move |word: usize, at: u32| few[word / base.pow(at) % base];
+    (0..base.pow(count)).map(move |word| {
         let colours = (0..count).map(|at| colour(word, at)).collect();
         Picture { height, width, codel: 1, colours }
     })

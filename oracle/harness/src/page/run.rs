@@ -1,0 +1,153 @@
+//! Runs, over a table or over the picture itself.
+use super::commands::{Machine, Parting};
+use super::grid::{Codel, Grid, Pointers, Way};
+use super::op;
+use super::table::LOST;
+
+pub const COMPLETED: u32 = 1;
+pub const MAX_STEPS: u32 = 2;
+pub const NEEDS_INPUT: u32 = 3;
+
+pub struct Terms<'a> {
+    pub limit: u64,
+    pub is_abstract: bool,
+    pub input: &'a [u8],
+    /// cells lent
+    pub stack: usize,
+    pub outputs: usize,
+}
+
+/// How a run ended.
+#[derive(Clone, Debug, PartialEq, Eq)]
+pub struct End {
+    pub status: u32,
+    pub steps: u64,
+    pub region: usize,
+    pub pointers: Pointers,
+    /// bottom first
+    pub stack: Vec<i64>,
+    /// kind and value
+    pub outputs: Vec<(u8, i64)>,
+    /// bytes of input
+    pub used: usize,
+    /// lines that IntIn skipped: ended, blank, not a number, out of range
+    pub skipped: [u64; 4],
+    /// it ended at a lost slide
+    pub lost: bool,
+    /// the first thing that the first edition does otherwise, and how many steps were taken before it
+    pub parting: Option<(u64, Parting)>,
+}
+
+impl End {
+    /// The twelve numbers of a run's answer.
+    pub fn numbers(&self) -> [u64; 12] {
+        let [status, dp, cc] = [self.status, self.pointers.dp, self.pointers.cc].map(u64::from);
+        let counts = [self.region, self.stack.len(), self.outputs.len(), self.used];
+        let [region, depth, outputs, used] = counts.map(|n| n as u64);
+        let [ended, blank, not_number, out_of_range] = self.skipped;
+        [
+            status, self.steps, region, dp, cc, depth, outputs, used, ended, blank, not_number,
+            out_of_range,
+        ]
+    }
+}
+
+/// Where a run goes from a place: nowhere, into a slide that is lost, or to another place.
+enum Next<P> {
+    Nowhere,
+    Lost,
+    Step { to: P, by: Pointers, command: u8, size: u32 },
+}
+
+/// Over the table of n regions in these cells; None where it is none (refusal 10).
+pub fn run_table(n: usize, rows: &[u32], exits: &[u32], terms: &Terms) -> Option<End> {
+    if !is_table(n, rows, exits) {
+        return None;
+    }
+    let next = |region: &usize, by: Pointers| {
+        let mut exits = by.attempts().map(|p| exits[8 * region + p.number() as usize]);
+        match exits.find(|&exit| exit != 0) {
+            None => Next::Nowhere,
+            Some(LOST) => Next::Lost,
+            Some(exit) => {
+                let (rest, to) = ((exit - 1) / 65_536, (exit - 1) as usize % 65_536);
+                let (by, command) = (Pointers::numbered(rest % 8), (rest / 8) as u8);
+                Next::Step { to, by, command, size: rows[5 * region + 1] }
+            }
+        }
+    };
+    Some(run(0, terms, next, |region| *region))
+}
+
+fn is_table(n: usize, rows: &[u32], exits: &[u32]) -> bool {
+    let exit = |&exit: &u32| match exit {
+        0 | LOST => true,
+        _ => exit < LOST && (exit as usize - 1) % 65_536 < n,
+    };
+    (1..=65_536).contains(&n)
+        && rows.len() >= 5 * n
+        && exits.len() >= 8 * n
+        && (0..n).all(|region| rows[5 * region + 4] <= 1)
+        && exits[..8 * n].iter().all(exit)
+}
+
+/// Over the codels of a picture, without a table; None where it begins with white (refusal 9).
+pub fn run_grid(grid: &Grid, terms: &Terms) -> Option<End> {
+    let first = grid.codels().next().filter(|&c| !grid.is_white(c))?;
+    let next = |at: &Codel, by: Pointers| {
+        let block = grid.block(*at);
+        let size = block.len() as u32;
+        for by in by.attempts() {
+            match grid.attempt(&block, by) {
+                Way::Shut => (),
+                Way::Across { landing: None, .. } => return Next::Lost,
+                Way::Across { landing: Some((to, by)), .. } => {
+                    return Next::Step { to, by, command: op::NONE, size };
+                }
+                Way::Beside(to) => {
+                    return Next::Step { to, by, command: grid.command(*at, to), size };
+                }
+            }
+        }
+        Next::Nowhere
+    };
+    Some(run(first, terms, next, |at| grid.number(*at)))
+}
+
+fn run<P>(
+    mut place: P,
+    terms: &Terms,
+    next: impl Fn(&P, Pointers) -> Next<P>,
+    region: impl Fn(&P) -> usize,
+) -> End {
+    let (mut machine, mut steps) = (Machine::default(), 0);
+    let (mut lost, mut parting) = (false, None);
+    let status = loop {
+        if steps == terms.limit {
+            break MAX_STEPS;
+        }
+        if machine.awaits {
+            break NEEDS_INPUT;
+        }
+        let (to, after) = match next(&place, machine.pointers) {
+            Next::Nowhere => break COMPLETED,
+            Next::Lost => {
+                lost = true;
+                parting = parting.or(Some((steps, Parting::LostSlide)));
+                break COMPLETED;
+            }
+            Next::Step { to, by, command, size } => {
+                (to, machine.stepped(by, (command, size), terms))
+            }
+        };
+        match after {
+            Err(status) => break status,
+            Ok(after) => (place, machine) = (to, after),
+        }
+        parting = parting.or(machine.parting.map(|what| (steps, what)));
+        steps += 1;
+    };
+    let Machine { pointers, stack, outputs, used, skipped, .. } = machine;
+    let region = region(&place);
+    End { status, steps, region, pointers, stack, outputs, used, skipped, lost, parting }
+}
