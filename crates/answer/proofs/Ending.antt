@@ -8,6 +8,7 @@ use borrow.Author.Tests.{lt-ltb, le-ltb}
 use lib.IntN.{pos}
 use lib.ListN.{length, getD, take, replicate}
 use lib.Seq.{getD-take}
+use Rattle.base.specs.Edition.{rustNumber}
 use Rattle.base.specs.Numbers.{numbers}
 use Rattle.base.proofs.Tests.{by-size}
 use Rattle.picture.specs.Picture.{Picture, colsOf, codels, codelColour}
@@ -68,7 +69,7 @@ legal-at (x ∷ cs) h (suc i) =
 -- a picture that is not refused is sound, and there is room for its table
 pub enough : (c : Content) → refusalOf c ≡ numbers 0 (0 ∷ 0 ∷ []) → Enough (askedPicture (askedOf c)) 512 2560 4096 512
 enough c h =
-    building.accepted (askedPicture (askedOf c)) 512 2560 4096 512 (0 ∷ 0 ∷ [])
+    building.accepted rustNumber (askedPicture (askedOf c)) 512 2560 4096 512 (0 ∷ 0 ∷ [])
     (sym (picture.accepted (askedOf c) fresh 0 (0 ∷ 0 ∷ []) refl (sym (same-refusal c fresh-sized ∙ h)) .builds))
 
 module _ (c : Content) {l l′ : Lends} {e : End} (s : Sized l) (s′ : Sized l′) (h : refusalOf c ≡ numbers 0 (0 ∷ 0 ∷ []))

@@ -14,6 +14,7 @@ use Rattle.picture.specs.Picture.{Picture, colsOf, codels, codelColour}
 use Rattle.region.specs.Grid.{gridOf}
 use Rattle.region.proofs.MapLaws.{unique}
 use Rattle.region.proofs.RowLaws.{first-one}
+use Rattle.machine.specs.Machine.{givenOf}
 use Rattle.machine.specs.Place.{End}
 use Rattle.piet.specs.RunPicture.{askedPicture}
 use Rattle.piet.proofs.FollowsOnly.{picture-only}
@@ -38,7 +39,7 @@ module _ (c : Content) {map map′ : List ℕ} {e e′ : End} {x x′ : List ℕ
       (λ i k. unique (gridOf (askedPicture (askedOf c))) map map′ (A .regions) (B .regions) (A .numbered) (B .numbered) .0 i (omega (arith, A .long)))
 
   same-end : e ≡ e′
-  same-end = picture-only (enough c h .sound) (A .long) (B .long) (A .numbered) (B .numbered) (askedOf c .given) runRoom (A .follows) (B .follows)
+  same-end = picture-only (enough c h .sound) (A .long) (B .long) (A .numbered) (B .numbered) (givenOf (askedOf c .asks)) runRoom (A .follows) (B .follows)
 
   same-label : x ≡ x′
   same-label =

@@ -3,6 +3,7 @@ use mathlib.Core.Path.{_≡_}
 use mathlib.Core.List.{List, [], _∷_}
 use Prim.Native.Nat.{ℕ, suc, _*_, _/_, _%_, _<_, _≤_}
 use lib.ListN.{length}
+use Rattle.base.specs.Edition.{rustNumber}
 use Rattle.base.specs.Lent.{lent}
 use Rattle.base.specs.Numbers.{Numbers, numbers, numberOf}
 use Rattle.colour.specs.Label.{labelOf}
@@ -10,7 +11,7 @@ use Rattle.picture.specs.Picture.{Picture, colsOf, codels, codelColour}
 use Rattle.region.specs.Grid.{gridOf}
 use Rattle.region.specs.Region.{IsMap}
 use Rattle.region.specs.Rows.{First}
-use Rattle.machine.specs.Machine.{given, RunRoom, statusOf}
+use Rattle.machine.specs.Machine.{asks, givenOf, RunRoom, statusOf}
 use Rattle.machine.specs.Place.{End}
 use Rattle.piet.specs.Follows.{Follows}
 use Rattle.piet.specs.RunPicture.{Asked, asked, askedPicture, refusal}
@@ -19,10 +20,10 @@ use Rattle.job.specs.Encoding.{Content, IsJob}
 use Rattle.job.specs.Outcome as reading
 use Rattle.report.specs.Text.{resultText, refusalText}
 
--- what a job asks of a run, under setting 0 (rule 13.4)
+-- what a job asks of a run, under setting 0 and in edition 1 (rules 13.4, 16.7)
 abbrev pub askedOf : Content → Asked
 askedOf c =
-    asked (c .pixels) (c .height) (c .width) 0 (c .codel) (given (record { limit = c .limit; «abstract_mode» = c .abstracted }) (c .input))
+    asked (c .pixels) (c .height) (c .width) 0 (c .codel) (asks rustNumber (c .limit) (c .abstracted) (c .input))
 
 -- the refusals of running a picture (rule 12.5), with room for 512 pixels, and so for the table of 512 codels (rule 13.4)
 abbrev pub refusalOf : Content → Numbers
@@ -43,7 +44,7 @@ pub record Ran (c : Content) (map : List ℕ) (e : End) (label : List ℕ) : Typ
   pub regions : ℕ
   pub long : length map ≡ codels (askedPicture (askedOf c))
   pub numbered : IsMap (gridOf (askedPicture (askedOf c))) map regions
-  pub follows : Follows (askedPicture (askedOf c)) map (askedOf c .given) runRoom e
+  pub follows : Follows (askedPicture (askedOf c)) map (givenOf (askedOf c .asks)) runRoom e
   pub labelled : Labels (askedPicture (askedOf c)) map (e .at .region) label
 
 -- status, steps, label, dp, cc, stack and outputs of an end

@@ -8,11 +8,11 @@ ghost use Rattle.piet.specs.RunPicture.{lends};
 ghost use Rattle.job.specs.Outcome.{Reads, contentOf};
 ghost use Rattle.answer.specs.Answer.{askedOf, Prints, Outcome};
 ghost use Rattle.answer.specs.Printing.{Starts, Legal, HasLabel, labelIn, linesOf, Printable};
+use base::edition::RUST_EDITION;
 use colour::label::Labelled;
 use interpreter::Ended;
 use job::Job;
 use job::Parts;
-use machine::Terms;
 use piet::run_picture::Pictured;
 use piet::run_picture::run_picture;
 use report::Figures;
@@ -83,7 +83,7 @@ fn put_ended(
     put_result(out, f, &label[..n], stack, kinds, values)
 }
 
-// The run that a job asks for: setting 0, its pixels and its input as parts of the job.
+// The run that a job asks for: setting 0 and edition 1, its pixels and its input as parts of the job.
 fn run_parts(
     job: &[u8],
     p: Parts,
@@ -103,17 +103,15 @@ fn run_parts(
     let settings = p.settings;
     let input = p.input;
     let end = p.end;
-    let terms = Terms {
-        limit: p.limit,
-        abstract_mode: p.abstracted,
-    };
     run_picture(
         &job[pixels..settings],
         p.height,
         p.width,
         0,
         p.codel,
-        terms,
+        RUST_EDITION,
+        p.limit,
+        p.abstracted,
         &job[input..end],
         colours,
         map,

@@ -8,6 +8,11 @@ pub enum Edition {
     Page,
 }
 
+// Their numbers.
+pub const RUST_EDITION: u32 = 1;
+
+pub const PAGE_EDITION: u32 = 2;
+
 // The number of the refusal of a number that names none.
 pub const UNKNOWN_EDITION: u32 = 15;
 
@@ -15,17 +20,17 @@ pub const UNKNOWN_EDITION: u32 = 15;
 pub fn unknown_edition(number: u32) -> bool
     ensures { λ r. ⌜ r ≡ unknownEdition number ⌝ }
 {
-    if number == 1 {
+    if number == RUST_EDITION {
         return false;
     }
-    number != 2
+    number != PAGE_EDITION
 }
 
 // The edition that a number names. A call refuses a number that names none before it asks for this.
 pub fn edition_of(number: u32) -> Edition
     ensures { λ r. ⌜ r ≡ editionOf number ⌝ }
 {
-    if number == 2 {
+    if number == PAGE_EDITION {
         return Edition::Page;
     }
     Edition::Rust

@@ -9,11 +9,11 @@
 // alike before it, and no two of one type are of one length.
 //     classify       the place of the unknown pixel tells height from width; setting 3 makes it black
 //     label          a row and a column of unlike digits
-//     build          every slice is longer than its room; the map shows the width
+//     build          every slice is longer than its room; the map shows the width; edition 3 is refused
 //     forever        the rows are too short to be exits
 //     run            7 is read and written, a slide leads back, 300 is read: it lies on the stack, and 7 in the values; with
 //                    other lines, a count of its own for each reason to skip one: 3 lines are blank, 2 no numbers, 1 is out
-//                    of range, and 5 times the input has ended
+//                    of range, and 5 times the input has ended; edition 3 is refused
 //     run_picture    as classify, build and run together, with the same lent slices
 //     read_p6        a file of 1 x 2 pixels, and one whose last byte is missing; the file has the width first
 //     write_p6       the file's text tells height from width; with another height the bytes don't fit
@@ -134,7 +134,7 @@ fn label(answer: &mut [u64]) {
     print_bytes(b"  out", &out);
 }
 
-fn build(answer: &mut [u64]) {
+fn build(edition: u32, answer: &mut [u64]) {
     let mut map = [82u32; 7];
     let mut rows = [83u32; 31];
     let mut exits = [84u32; 49];
@@ -144,6 +144,7 @@ fn build(answer: &mut [u64]) {
         3,
         5,
         2,
+        edition,
         &mut map,
         &mut rows,
         &mut exits,
@@ -160,7 +161,7 @@ fn forever(answer: &mut [u64]) {
     print_returned(b"piet_determine_runs_forever", number, answer);
 }
 
-fn run(limit: u64, input: &[u8], answer: &mut [u64]) {
+fn run(edition: u32, limit: u64, input: &[u8], answer: &mut [u64]) {
     let exits = exits();
     let mut stack = [86i64; 5];
     let mut kinds = [87u8; 3];
@@ -169,6 +170,7 @@ fn run(limit: u64, input: &[u8], answer: &mut [u64]) {
         4,
         &ROWS,
         &exits,
+        edition,
         limit,
         false,
         input,
@@ -181,7 +183,7 @@ fn run(limit: u64, input: &[u8], answer: &mut [u64]) {
     print_room(&stack, &kinds, &values);
 }
 
-fn run_picture(limit: u64, input: &[u8], answer: &mut [u64]) {
+fn run_picture(edition: u32, limit: u64, input: &[u8], answer: &mut [u64]) {
     let pixels = pixels();
     let mut colours = [80u8; 16];
     let mut map = [82u32; 7];
@@ -197,6 +199,7 @@ fn run_picture(limit: u64, input: &[u8], answer: &mut [u64]) {
         5,
         3,
         2,
+        edition,
         limit,
         false,
         input,
@@ -242,8 +245,9 @@ fn tables() {
     classify(3, &mut one);
     label(&mut two);
     label(&mut none);
-    build(&mut three);
-    build(&mut one);
+    build(1, &mut three);
+    build(3, &mut three);
+    build(1, &mut one);
     forever(&mut two);
     forever(&mut none);
 }
@@ -253,12 +257,14 @@ fn runs() {
     let mut twelve = [94u64; 12];
     let mut thirteen = [95u64; 13];
     let mut fourteen = [96u64; 14];
-    run(4, b"7\n300\n5\n", &mut thirteen);
-    run(31, b"\n\n\nx\nx\n9223372036854775808\n", &mut thirteen);
-    run(4, b"7\n300\n5\n", &mut eleven);
-    run_picture(4, b"7\n300\n5\n", &mut fourteen);
-    run_picture(31, b"\n\n\nx\nx\n9223372036854775808\n", &mut fourteen);
-    run_picture(4, b"7\n300\n5\n", &mut twelve);
+    run(1, 4, b"7\n300\n5\n", &mut thirteen);
+    run(1, 31, b"\n\n\nx\nx\n9223372036854775808\n", &mut thirteen);
+    run(3, 4, b"7\n300\n5\n", &mut thirteen);
+    run(1, 4, b"7\n300\n5\n", &mut eleven);
+    run_picture(1, 4, b"7\n300\n5\n", &mut fourteen);
+    run_picture(1, 31, b"\n\n\nx\nx\n9223372036854775808\n", &mut fourteen);
+    run_picture(3, 4, b"7\n300\n5\n", &mut fourteen);
+    run_picture(1, 4, b"7\n300\n5\n", &mut twelve);
 }
 
 fn files() {

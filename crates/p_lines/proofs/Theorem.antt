@@ -9,19 +9,19 @@ use lib.Dec.{T, eqb}
 use lib.ListN.{length, getD}
 use lib.IntN.{ℤ, pos, negsuc}
 use Rattle.base.proofs.Table.{all, all-at}
-use Rattle.word.specs.Word.{residue, signed64, wrap, isZero, quotient, remainder}
+use Rattle.word.specs.Word.{residue, signed64, wrap, isZero, quotient, rustRemainder, remainder}
 use Rattle.colour.specs.Decode.{decodeOf}
 use Rattle.flow.specs.Pointer.{attemptOf}
 use Rattle.text.specs.Range.{within}
 use Rattle.text.specs.Utf8.{scalar}
 use Rattle.text.specs.Reading.{same}
 use Rattle.text.proofs.ReadingLaws.{same-self}
-use Rattle.stack.specs.Instr.{roll, rolled, places, turn}
+use Rattle.stack.specs.Instr.{roll, rolled, badDepth, places, turn}
 use Rattle.machine.specs.Output.{char}
 use Rattle.p_lines.specs.Table.{Question, orderFrom, decodes, modOf, divOf, addOf, rollOf, charOutOf, PLine, emitted, answer, pLines}
 
 pub p-lines : map (λ (l : PLine). answer (l .asks)) pLines ≡ map (λ (l : PLine). l .says) pLines
-unfolding residue signed64 wrap isZero quotient remainder decodeOf attemptOf roll rolled places turn char scalar within emitted
+unfolding residue signed64 wrap isZero quotient rustRemainder remainder decodeOf attemptOf roll rolled badDepth places turn char scalar within emitted
 p-lines = refl
 
 -- two orders of attempts, three colour changes, four of b and a, two of Roll, two of CharOut

@@ -2,6 +2,7 @@
 use mathlib.Core.List.{List, [], _∷_, map}
 use Prim.Native.Nat.{ℕ}
 use lib.IntN.{ℤ, pos, negsuc, _+ℤ_}
+use Rattle.base.specs.declared.edition.Edition.the-variants.{Rust}
 use Rattle.word.specs.Word.{wrap, quotient, remainder}
 use Rattle.colour.specs.Decode.{decodeOf}
 use Rattle.flow.specs.Pointer.{stateNumber, ofNumber, attemptOf}
@@ -27,14 +28,14 @@ unfoldable pub emitted : List Emit → List ℤ
 emitted [] = []
 emitted (e ∷ es) = pos (e .kind) ∷ e .value ∷ emitted es
 
--- what the definitions say
+-- what the definitions say, in edition 1
 abbrev pub answer : Question → List ℤ
 answer (orderFrom s) = map (λ k. pos (stateNumber (attemptOf (ofNumber s) k))) (0 ∷ 1 ∷ 2 ∷ 3 ∷ 4 ∷ 5 ∷ 6 ∷ 7 ∷ [])
 answer (decodes from to) = pos (decodeOf from to) ∷ []
-answer (modOf b a) = remainder b a
+answer (modOf b a) = remainder Rust b a
 answer (divOf b a) = quotient b a
 answer (addOf b a) = wrap (b +ℤ a) ∷ []
-answer (rollOf s) = roll s
+answer (rollOf s) = roll Rust s
 answer (charOutOf v) = emitted (charOut v)
 
 pub record PLine : Type 0 where

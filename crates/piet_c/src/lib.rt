@@ -209,7 +209,15 @@ pub extern "C" fn piet_build(
         return 4;
     }
     let told = of_built(cfg::build(
-        colours, height, width, codel, edition, map, rows, exits, work,
+        colours,
+        height,
+        width,
+        codel,
+        edition,
+        map,
+        rows,
+        exits,
+        work,
     ));
     put_two(answer, told.first, told.second);
     told.number

@@ -1,7 +1,7 @@
-// Replays stored runs of the Rust, with a model's counts of skipped lines: `stdin` holds questions, each a picture, then the
-// limit in four bytes, the mode, the stack's room and the output's room, a byte each, the input's length in two, the lower
-// first, and the input; `stdout` has a line for each: the run's twelve numbers, the stack from its top, and a kind and a value
-// for each output.
+// Replays stored runs, of the Rust in edition 1, with a model's counts of skipped lines, and of a model in edition 2: `stdin`
+// holds questions, each the edition of the building and that of the run, a byte each, a picture, then the limit in four bytes,
+// the mode, the stack's room and the output's room, a byte each, the input's length in two, the lower first, and the input;
+// `stdout` has a line for each: the run's twelve numbers, the stack from its top, and a kind and a value for each output.
 ghost use Prim.Native.Nat.{_≤_};
 ghost use lib.ListN.{length};
 use cfg::Built;
@@ -55,6 +55,7 @@ fn print_run(
     n: usize,
     rows: &[u32],
     exits: &[u32],
+    edition: u32,
     question: &[u8],
     stack: &mut [i64],
     kinds: &mut [u8],
@@ -68,6 +69,7 @@ fn print_run(
         n,
         rows,
         exits,
+        edition,
         limit,
         question[4] == 1,
         &question[9..],
@@ -78,6 +80,7 @@ fn print_run(
     );
     if number != 0 {
         io::write_all(STDOUT_FILENO, b"refused");
+        stored::print_cell(number);
         return;
     }
     print_answer(&answer);
@@ -85,7 +88,7 @@ fn print_run(
     print_outputs(kinds, values, answer[6]);
 }
 
-fn lend_and_run(n: usize, rows: &[u32], exits: &[u32], question: &[u8])
+fn lend_and_run(n: usize, rows: &[u32], exits: &[u32], edition: u32, question: &[u8])
     requires { ⌜ 9 ≤ length (now question) ⌝ }
 {
     let mut stack = [0i64; 256];
@@ -97,6 +100,7 @@ fn lend_and_run(n: usize, rows: &[u32], exits: &[u32], question: &[u8])
         n,
         rows,
         exits,
+        edition,
         question,
         &mut stack[..depth],
         &mut kinds[..room],
@@ -105,7 +109,7 @@ fn lend_and_run(n: usize, rows: &[u32], exits: &[u32], question: &[u8])
 }
 
 fn print_question(picture: &[u8], question: &[u8]) {
-    if picture.len() < 3 {
+    if picture.len() < 5 {
         return;
     }
     if question.len() < 9 {
@@ -115,14 +119,16 @@ fn print_question(picture: &[u8], question: &[u8]) {
     let mut rows = [0u32; 5120];
     let mut exits = [0u32; 8192];
     let mut work = [0u32; 1024];
-    let height = stored::wide(picture[0]);
-    let width = stored::wide(picture[1]);
-    let codel = stored::wide(picture[2]);
+    let edition = stored::edition(picture[0]);
+    let height = stored::wide(picture[2]);
+    let width = stored::wide(picture[3]);
+    let codel = stored::wide(picture[4]);
     let built = cfg::build(
-        &picture[3..],
+        &picture[5..],
         height,
         width,
         codel,
+        edition,
         &mut map,
         &mut rows,
         &mut exits,
@@ -130,7 +136,8 @@ fn print_question(picture: &[u8], question: &[u8]) {
     );
     match built {
         Built::Done { regions } => {
-            lend_and_run(regions, &rows, &exits, question);
+            let running = stored::edition(picture[1]);
+            lend_and_run(regions, &rows, &exits, running, question);
         }
         _ => {
             io::write_all(STDOUT_FILENO, b"refused");
@@ -154,7 +161,7 @@ fn question_end(records: &[u8], at: usize) -> usize
 fn print_records(records: &[u8]) {
     let mut at = 0;
     while at < records.len() {
-        let middle = stored::picture_end(records, at);
+        let middle = stored::picture_end(records, at, 2);
         let end = question_end(records, middle);
         print_question(&records[at..middle], &records[middle..end]);
         at = end;

@@ -1,5 +1,6 @@
-// Replays stored tables of the Rust: `stdin` holds pictures, each a byte for the height, the width and the codel's width
-// and then a colour number a pixel; `stdout` has a line for each: the count of regions, the map, the rows and the exits.
+// Replays stored tables, of the Rust in edition 1 and of a model in edition 2: `stdin` holds pictures, each a byte for the
+// edition, the height, the width and the codel's width and then a colour number a pixel; `stdout` has a line for each: the
+// count of regions, the map, the rows and the exits.
 ghost use Prim.Native.Nat.{_≤_};
 use cfg::Built;
 use libc::STDIN_FILENO;
@@ -28,7 +29,7 @@ fn print_table(count: usize, n: usize, map: &[u32], rows: &[u32], exits: &[u32])
 }
 
 // A small picture: its table, or that it is refused.
-fn print_picture(colours: &[u8], height: usize, width: usize, codel: usize) {
+fn print_picture(colours: &[u8], height: usize, width: usize, codel: usize, edition: u32) {
     let mut map = [0u32; 1024];
     let mut rows = [0u32; 5120];
     let mut exits = [0u32; 8192];
@@ -38,6 +39,7 @@ fn print_picture(colours: &[u8], height: usize, width: usize, codel: usize) {
         height,
         width,
         codel,
+        edition,
         &mut map,
         &mut rows,
         &mut exits,
@@ -87,19 +89,20 @@ fn codel_count(height: usize, width: usize, codel: usize) -> usize {
 }
 
 fn print_record(record: &[u8]) {
-    if record.len() < 3 {
+    if record.len() < 4 {
         return;
     }
-    let height = stored::wide(record[0]);
-    let width = stored::wide(record[1]);
-    let codel = stored::wide(record[2]);
-    print_picture(&record[3..], height, width, codel);
+    let edition = stored::edition(record[0]);
+    let height = stored::wide(record[1]);
+    let width = stored::wide(record[2]);
+    let codel = stored::wide(record[3]);
+    print_picture(&record[4..], height, width, codel, edition);
 }
 
 fn print_records(records: &[u8]) {
     let mut at = 0;
     while at < records.len() {
-        let end = stored::picture_end(records, at);
+        let end = stored::picture_end(records, at, 1);
         print_record(&records[at..end]);
         at = end;
     }

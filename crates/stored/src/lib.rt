@@ -11,6 +11,13 @@ pub fn wide(b: u8) -> usize
     b as usize
 }
 
+// A byte as the number of an edition.
+pub fn edition(b: u8) -> u32
+    ensures { λ r. ⌜ r ≡ b ⌝ }
+{
+    b as u32
+}
+
 // Two bytes as a number, the lower first.
 pub fn pair_at(records: &[u8], at: usize) -> usize
     requires { ⌜ at + 2 ≤ length (now records) ⌝ }
@@ -32,18 +39,19 @@ pub fn record_end(records: &[u8], body: usize, size: usize) -> usize
     body + size
 }
 
-// Where the picture that begins at an index ends.
-pub fn picture_end(records: &[u8], at: usize) -> usize
-    requires { ⌜ at < length (now records) ⌝ }
+// Where the picture ends that stands after one or two bytes from an index on.
+pub fn picture_end(records: &[u8], at: usize, lead: usize) -> usize
+    requires { ⌜ (at < length (now records)) × (lead ≤ 2) ⌝ }
     ensures above { λ r. ⌜ at < r ⌝ }
     ensures within { λ r. ⌜ r ≤ length (now (records .entry)) ⌝ }
 {
-    if records.len() - at < 3 {
+    if records.len() - at < lead + 3 {
         return records.len();
     }
-    let height = wide(records[at]);
-    let width = wide(records[at + 1]);
-    record_end(records, at + 3, height * width)
+    let start = at + lead;
+    let height = wide(records[start]);
+    let width = wide(records[start + 1]);
+    record_end(records, start + 3, height * width)
 }
 
 pub fn print_number(n: u64) {

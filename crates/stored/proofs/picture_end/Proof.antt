@@ -9,8 +9,14 @@ use Rattle.stored.proofs.picture_end.Tie as tie
 sub-if1 : tie.Need-sub-if1
 sub-if1 c = search needs
 
+add-if1 : tie.Need-add-if1
+add-if1 c = search needs
+
 returns : tie.Need-returns
 returns c = search needs
+
+add-start : tie.Need-add-start
+add-start c = search needs
 
 shared-slice-read-wide : tie.Need-shared-slice-read-wide
 shared-slice-read-wide c = search needs
@@ -48,7 +54,9 @@ picture-end-spec =
     tie.close
     (tie.spec
     sub-if1
+    add-if1
     returns
+    add-start
     shared-slice-read-wide
     wide-requires
     add-wide
