@@ -15,7 +15,8 @@
  * lent, none allocates, and none touches what lies past a slice's end.
  *
  * Editions. The rules have two editions (enum piet_edition). A call that builds or runs takes the number of one; every
- * other number, 0 too, is PIET_REFUSED_EDITION, which comes before the call's other refusals.
+ * other number, 0 too, is PIET_REFUSED_EDITION, which comes before the call's other refusals
+ * (but for an answer that is too short).
  *
  * What is returned. 0 for done, else a refusal (enum piet_refusal). Any argument may be wrong: no value of a number
  * or of a lent cell does more than a refusal.
@@ -287,7 +288,8 @@ uint32_t piet_determine_runs_forever(size_t n,
  * A run over a table, from region 0 with dp right, cc left and an empty stack.
  *
  *   n, rows, exits   the table: the count of regions, 5 x n row cells, 8 x n exit cells; longer slices will do
- *   edition          enum piet_edition. A table that was built in the other edition is run by its exits as they stand
+ *   edition          enum piet_edition. A table that was built in the other edition is run by its exits as they stand;
+ *                    with PIET_EXIT_LOST among them it is refused in PIET_EDITION_RUST
  *   limit            the most steps
  *   abstract_mode    true: an input instruction reads nothing, and the run stops after it
  *   input            the bytes that input instructions read, by lines

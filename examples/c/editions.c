@@ -102,7 +102,8 @@ int main(void)
     print_exits(&by_page);
     run(PIET_EDITION_PAGE, &by_page);
 
-    /* A table is run by its exits as they stand: in that of edition 1 no slide is lost, only not open. */
+    /* A table is run by its exits as they stand: in that of edition 1
+     * a lost slide is not open, and the next attempt is made. */
     printf("\nthe table of edition 1, run in edition 2\n");
     run(PIET_EDITION_PAGE, &by_rust);
 

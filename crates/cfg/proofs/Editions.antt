@@ -2,7 +2,8 @@
 --     same-table     map, rows and count of regions are the same
 --     same-exit      where edition 1 has an exit, edition 2 has the same one
 --     lost-exits     edition 2 has 9,437,185 at the lost slides of nodes, and nowhere else
---     other-exits    where edition 2 has another exit, edition 1 has the same one
+--     lost-shut      where it has that, edition 1 has 0
+--     other-exits    where it has any other number, 0 too, edition 1 has the same
 -- Assumes nothing.
 use mathlib.Core.Path.{_≡_, refl}
 use mathlib.Core.List.{List}
@@ -20,8 +21,8 @@ use Rattle.region.specs.Grid.{gridOf}
 use Rattle.region.specs.Region.{IsMap}
 use Rattle.table.specs.Layout.{exitAt}
 use Rattle.table.specs.ExitNumber.{lostSlide}
-use Rattle.exit.specs.Opens.{Stuck}
-use Rattle.exit.proofs.Opening.{rust-unstuck}
+use Rattle.exit.specs.Opens.{Stuck, lost}
+use Rattle.exit.proofs.Opening.{rust-unstuck, astray-shut}
 use Rattle.cfg.specs.Nodes.{Node}
 use Rattle.cfg.specs.Table.{Exit, no-node, shut, leads, stuck, Builds}
 use Rattle.cfg.proofs.Leads.{open-fits}
@@ -65,8 +66,16 @@ module _ {p : Picture} (S : Sound p) {map rows exits work map′ rows′ exits�
     pub lost-exits : (exitAt exits′ r s ≡ lostSlide) ↔ (Node p map r × Stuck p map r (ofNumber s) Page)
     lost-exits = (
       is-lost S (one .regions) (one .map-long) (valid-number s k) (over .exit r s h k),
-      λ lost. one-exit (cols-pos S) (one .map-long) (valid-number s k) (over .exit r s h k) (stuck (lost .0) (lost .1)),
+      λ found. one-exit (cols-pos S) (one .map-long) (valid-number s k) (over .exit r s h k) (stuck (found .0) (found .1)),
     )
+
+    pub lost-shut : exitAt exits′ r s ≡ lostSlide → exitAt exits r s ≡ 0
+    lost-shut x = shut-in-1 (lost-exits .0 x)
+      where
+        shut-in-1 : Node p map r × Stuck p map r (ofNumber s) Page → exitAt exits r s ≡ 0
+        shut-in-1 (N, lost t) =
+            one-exit (cols-pos S) (one .map-long) (valid-number s k) (one .exit r s h k)
+            (shut N (astray-shut (cols-pos S) (one .map-long) (valid-number s k) t))
 
     pub other-exits : (exitAt exits′ r s ≡ lostSlide → ⊥) → exitAt exits′ r s ≡ exitAt exits r s
     other-exits d = one-exit (cols-pos S) (one .map-long) (valid-number s k) (in-rust (over .exit r s h k) d) (one .exit r s h k)

@@ -4,7 +4,7 @@
 --     exit-fits      an exit is at most the largest of its edition, and what it says of a target is a region's number, as the
 --                    run asks
 -- Assumes nothing.
-use mathlib.Core.Path.{_≡_, refl, sym, subst, _∙_}
+use mathlib.Core.Path.{_≡_, sym, subst, _∙_}
 use mathlib.Core.List.{List}
 use Prim.Native.Nat.{ℕ, _<_, _≤_}
 use native.Mathlib.Omega.{arith}

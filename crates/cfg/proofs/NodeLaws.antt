@@ -32,7 +32,7 @@ opens-found f v (beside t) = next f v t nodes.beside
 opens-found f v (across t) = next f v t nodes.landing
 
 module _ {p : Picture} {map : List ℕ} {r s : ℕ} (h : 0 < colsOf p) (l : length map ≡ codels p) (k : s < 8) (N : Node p map r) where
-  -- the one place where the editions part: a lost slide is passed over, or is where a run ends
+  -- of a lost slide, by the edition: it is passed over, or is where a run ends
   lost-number : (e : Edition) {a b : ℕ} → Tried p map r (ofNumber s) (Astray a b) → Exit e p map r (ofNumber s) (lostExit e)
   lost-number Rust t = shut N (astray-shut h l (valid-number s k) t)
   lost-number Page t = stuck N (lost t)

@@ -1,6 +1,6 @@
 -- The refusals of building: what each test says, and what a call that is not refused may rely on.
---     picture-accepted    nothing of a picture is refused: it is sound and there is room
---     accepted            nothing is refused, so that this holds too
+--     known               where nothing is refused the number names an edition
+--     accepted            and the picture is sound and there is room
 --     outcome-only        two outcomes for one input are one
 -- Assumes nothing.
 use mathlib.Core.Path.{_≡_, refl, sym, ap, _∙_}
@@ -75,13 +75,17 @@ not-false : (b : Bool) → not b ≡ false → b ≡ true
 not-false true e = refl
 not-false false e = absurd (true≢false e)
 
--- where nothing is refused, nothing of the picture is
+-- where nothing is refused, the number names an edition, and nothing of the picture is refused
+pub known : (n : ℕ) (p : Picture) (m r e w : ℕ) (v : List ℕ) → numbers 0 v ≡ refusal n p m r e w → unknownEdition n ≡ false
+unfolding refusal refusals
+known n p m r e w v h = passed _ 14 _ v _ _ h .0
+
 past-edition : (n : ℕ) (p : Picture) (m r e w : ℕ) (v : List ℕ) → numbers 0 v ≡ refusal n p m r e w → numbers 0 v ≡ pictureRefusal p m r e w
 unfolding refusal refusals pictureRefusal
 past-edition n p m r e w v h = passed _ 14 _ v _ _ h .1
 
 -- what a call that is not refused may rely on
-pub picture-accepted : (p : Picture) (m r e w : ℕ) (v : List ℕ) → numbers 0 v ≡ pictureRefusal p m r e w → Enough p m r e w
+picture-accepted : (p : Picture) (m r e w : ℕ) (v : List ℕ) → numbers 0 v ≡ pictureRefusal p m r e w → Enough p m r e w
 unfolding pictureRefusal pictureRefusals short
 picture-accepted p m r e w v h =
     let a = passed _ 0 _ v _ _ h in

@@ -53,9 +53,13 @@ pictureRefusals p map rows exits work =
 unfoldable pub pictureRefusal : Picture → ℕ → ℕ → ℕ → ℕ → Numbers
 pictureRefusal p map rows exits work = first (pictureRefusals p map rows exits work) (numbers 0 (0 ∷ 0 ∷ []))
 
--- the table of refusals: a number that names no edition comes before all others (rule 16.1)
+-- the refusal of a number that names no edition, where a place is answered with it
+abbrev pub editionRow : ℕ → Row
+editionRow edition = row (unknownEdition edition) (numbers 15 (0 ∷ 0 ∷ []))
+
+-- the table of refusals: that of the edition comes before all others (rule 16.1)
 unfoldable pub refusals : ℕ → Picture → ℕ → ℕ → ℕ → ℕ → List Row
-refusals edition p map rows exits work = row (unknownEdition edition) (numbers 15 (0 ∷ 0 ∷ [])) ∷ pictureRefusals p map rows exits work
+refusals edition p map rows exits work = editionRow edition ∷ pictureRefusals p map rows exits work
 
 unfoldable pub refusal : ℕ → Picture → ℕ → ℕ → ℕ → ℕ → Numbers
 refusal edition p map rows exits work = first (refusals edition p map rows exits work) (numbers 0 (0 ∷ 0 ∷ []))

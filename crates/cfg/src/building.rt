@@ -172,8 +172,8 @@ pub fn build(
     );
     if let Built::Done { regions: _ } = answer {
         let s = shape_of(height, width, codel);
-        let rules = edition_of(edition);
-        let n = write_table(colours, s, rules, map, rows, exits, work);
+        let known = edition_of(edition);
+        let n = write_table(colours, s, known, map, rows, exits, work);
         return Built::Done { regions: n };
     }
     answer

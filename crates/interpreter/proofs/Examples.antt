@@ -107,8 +107,8 @@ pub stack-full : alone 524289 5 false ≡ told (4 ∷ 0 ∷ 0 ∷ 0 ∷ 0 ∷ 0 
 unfolding attemptOf statusOf exec fitting openFrom any arrive after runOf first
 stack-full = refl
 
--- a lost slide: in edition 2 Completed after 0 steps, and with the limit 0 MaxSteps (rule 16.6); in edition 1 it is refused, as is
--- the number above it in both (rule 12.2)
+-- a lost slide: in edition 2 Completed after 0 steps, and with the limit 0 MaxSteps (rule 16.6); in edition 1 it is refused, as
+-- is the number above it in both (rule 12.2)
 pub lost-slide : (aloneIn 2 9437185 5 false ≡ told (1 ∷ 0 ∷ 0 ∷ 0 ∷ 0 ∷ 0 ∷ 0 ∷ 0 ∷ []))
     × (aloneIn 2 9437185 0 false ≡ told (2 ∷ 0 ∷ 0 ∷ 0 ∷ 0 ∷ 0 ∷ 0 ∷ 0 ∷ []))
     × (aloneIn 1 9437185 5 false ≡ refused 10)

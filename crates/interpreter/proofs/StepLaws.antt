@@ -75,7 +75,7 @@ some-exit w h =
     let z : w ≡ 0 → ⊥ = eqb-false w 0 (neither (eqb w 0) (eqb w lostSlide) h .0) in
     omega (arith, z)
 
--- the exit taken leads to a region of the table
+-- the exit that a run comes to leads to a region of the table
 either : (P : ℕ → Type 0) (t : Bool) (x y : ℕ) → P x → P y → P (cond t x y)
 either P true x y p q = p
 either P false x y p q = q

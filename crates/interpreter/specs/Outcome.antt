@@ -62,9 +62,10 @@ unfoldable pub numbered : Ran → Numbers
 numbered (Refused number) = refused number
 numbered (Finished e) = numbers 0 (resultOf e)
 
--- the refusals of the call, whose edition has the number e: 15, then 10 (rule 12.6)
+-- the refusals of the call, by the number of its edition: 15, then 10 (rule 12.6)
 abbrev pub refusals : ℕ → ℕ → List ℕ → List ℕ → List Row
-refusals e n rows exits = row (unknownEdition e) (refused 15) ∷ row (wrongTable (editionOf e) n rows exits) (refused 10) ∷ []
+refusals edition n rows exits =
+    row (unknownEdition edition) (refused 15) ∷ row (wrongTable (editionOf edition) n rows exits) (refused 10) ∷ []
 
 abbrev pub jobOf : List ℕ → List ℕ → Given → Slices → Job
 jobOf rows exits g l = record { rows = rows; exits = exits; given = g; room = roomOf l }

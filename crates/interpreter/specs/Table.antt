@@ -1,4 +1,4 @@
--- The lent table as a run reads it: refusal 10 (rule 12.2), and the exit taken (rule 8.3). Where rows and exits stand, and what
+-- The lent table as a run reads it: refusal 10 (rule 12.2), and the exit that it comes to (rule 8.3). Where rows and exits stand, and what
 -- an exit number says, is the crate table's. Assumes nothing.
 use mathlib.Core.Bool.{Bool, true, false, cond, not, _&&_, _||_}
 use mathlib.Core.List.{List}
@@ -29,7 +29,7 @@ unfoldable pub openFrom : List ℕ → ℕ → PointerState → ℕ → ℕ → 
 openFrom exits region p zero k = 0
 openFrom exits region p (suc j) k = cond (eqb (tried exits region p k) 0) (openFrom exits region p j (suc k)) (tried exits region p k)
 
--- the exit that a run comes to, of the eight attempts in their order; 0 where none is open (rule 8.3)
+-- the exit that a run comes to, of the eight attempts in their order; 0 where all eight are 0 (rule 8.3)
 abbrev pub exitOf : List ℕ → ℕ → PointerState → ℕ
 exitOf exits region p = openFrom exits region p 8 0
 

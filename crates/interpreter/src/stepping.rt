@@ -92,8 +92,8 @@ fn go_through(
     }
 }
 
-// Whether no step is made by an exit: there is none, or it is a lost slide. That one stands in a table is for edition 2
-// alone: in edition 1 it is refused.
+// Whether no step is made by an exit: there is none, or it is a lost slide. The edition is not asked for: `run` accepts a
+// table with a lost slide in edition 2 alone.
 fn ends(w: u32) -> bool
     ensures { λ r. ⌜ r ≡ ends w ⌝ }
 {

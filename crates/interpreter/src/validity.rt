@@ -30,7 +30,7 @@ fn largest_in(edition: Edition) -> u32
     }
 }
 
-// Whether an exit is above the largest or has a target not below n. 0 is no exit.
+// Whether an exit is above the largest or has a target not below n. 0 is no exit, and a lost slide reads as target 0.
 fn wrong_exit(w: u32, n: usize, largest: u32) -> bool
     requires { ⌜ 0 < n ⌝ }
     ensures { λ r. ⌜ r ≡ wrongExit largest n w ⌝ }

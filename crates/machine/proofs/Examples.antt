@@ -21,7 +21,7 @@ pairs = (refl, refl, refl, refl, refl)
 -- the other numbers of `test_roll`
 pub test-roll : (roll Rust (negsuc 0 ∷ pos 2 ∷ pos 6 ∷ pos 5 ∷ pos 4 ∷ []) ≡ pos 5 ∷ pos 6 ∷ pos 4 ∷ [])
     × (roll Rust (pos 1 ∷ pos 3 ∷ pos 6 ∷ pos 5 ∷ pos 4 ∷ []) ≡ pos 5 ∷ pos 4 ∷ pos 6 ∷ [])
-unfolding residue turn badDepth places rolled undone roll
+unfolding residue turn badDepth places rolled roll
 test-roll = (refl, refl)
 
 -- a roll by -2^63, which is 1 modulo 3; depths that roll nothing: 0, negative, above the values left (rule 9.8); one value is

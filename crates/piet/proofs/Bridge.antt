@@ -12,7 +12,7 @@ use Rattle.base.specs.declared.edition.Edition.{Edition}
 use Rattle.flow.specs.declared.PointerState.{PointerState}
 use Rattle.flow.specs.Pointer.{Valid, stateNumber, ofNumber, attemptOf}
 use Rattle.flow.proofs.Order.{of-number, number-small, valid-attempt}
-use Rattle.piet.specs.Moves.{ShutBefore, FirstOpen, NoMove, none-open, lost-first}
+use Rattle.piet.specs.Moves.{ShutBefore, FirstOpen, NoMove, all-shut, lost-first}
 use Rattle.picture.specs.Picture.{Picture, codels, Sound}
 use Rattle.table.specs.Layout.{sizeField, fieldAt, exitAt}
 use Rattle.table.specs.ExitNumber.{exitNumber, targetOf, instructionOf, lostSlide}
@@ -106,7 +106,7 @@ module _ {e : Edition} {p : Picture} {map rows exits : List ℕ} {n : ℕ} (S : 
 
     taken-from : (left k : ℕ) → left + k ≡ 8 → ShutBefore e p map r q k → Taken r q (openFrom exits r q left k)
     unfolding openFrom
-    taken-from zero k l before = none refl (none-open (λ j m. before j (omega arith)))
+    taken-from zero k l before = none refl (all-shut (λ j m. before j (omega arith)))
     taken-from (suc left) k l before =
         taken-at left k (omega arith) before (taken-from left (suc k) (omega arith)) (exit-says r (attemptOf q k) h (valid-attempt q k v) N)
 

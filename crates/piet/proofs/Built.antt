@@ -33,7 +33,7 @@ use Rattle.cfg.specs.Table.{Marks, is, none, Builds}
 use Rattle.cfg.specs.declared.building.Built.the-variants.{Done}
 use Rattle.cfg.specs.Build as building
 use Rattle.cfg.specs.Build.{Written, refusals, pictureRefusals, refusal}
-use Rattle.cfg.proofs.Refusing.{accepted}
+use Rattle.cfg.proofs.Refusing.{known, accepted}
 use Rattle.cfg.proofs.Leads.{exit-fits}
 use Rattle.interpreter.specs.declared.Ended.{Ended}
 use Rattle.interpreter.specs.declared.Ran.{Ran}
@@ -122,11 +122,6 @@ record Followed (number : ℕ) (p : Picture) (map rows exits : List ℕ) (n : �
   valid : validOf (editionOf number) n rows exits ≡ true
   follows : (g : Given) (l : Slices) → g .terms .edition ≡ editionOf number
       → Follows p (take (codels p) map) g (roomOf l) (endOf rows exits g l) × (endOf rows exits g l .at .region < n)
-
--- what is built is of an edition
-known : (number : ℕ) (p : Picture) (m r e w : ℕ) (v : List ℕ) → numbers 0 v ≡ refusal number p m r e w → unknownEdition number ≡ false
-unfolding refusal refusals
-known number p m r e w v h = passed _ 14 _ v _ _ h .0
 
 runs : {number : ℕ} {p : Picture} {map rows exits work map′ rows′ exits′ work′ : List ℕ} {n : ℕ}
     → building.Outcome number p map rows exits work (Done n) map′ rows′ exits′ work′ → Followed number p map′ rows′ exits′ n

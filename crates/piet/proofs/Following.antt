@@ -156,7 +156,7 @@ module _ {p : Picture} {map rows exits : List ℕ} {n : ℕ} (S : Sound p) (g : 
     pub inside : m .region < n
     pub valid : Valid (m .store .pointers)
 
-  -- the exit taken there, as a move of the picture
+  -- the exit that the run comes to there, as a move of the picture
   abbrev exit-taken : {history : List Move} {m : Machine} → Stands history m → Taken S B (m .region) (m .store .pointers) (exitFrom job m)
   exit-taken {m = m} s = taken S B (m .region) (m .store .pointers) (s .inside) (s .valid) (s .node)
 

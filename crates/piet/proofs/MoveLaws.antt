@@ -2,7 +2,7 @@
 use mathlib.Core.Path.{_≡_, subst}
 use mathlib.Core.Logic.{by-cases}
 use mathlib.Core.List.{List}
-use Prim.Native.Nat.{ℕ, _<_}
+use Prim.Native.Nat.{ℕ}
 use native.Mathlib.Omega.{arith}
 use native.Mathlib.Decide.{decLt}
 use lib.ListN.{length}
@@ -14,7 +14,7 @@ use Rattle.picture.specs.Picture.{Picture, codels, Sound}
 use Rattle.picture.proofs.Codels.{cols-pos}
 use Rattle.exit.specs.Opens.{Stuck}
 use Rattle.exit.proofs.Opening.{open-unstuck}
-use Rattle.piet.specs.Moves.{ShutBefore, FirstOpen, NoMove, none-open, lost-first}
+use Rattle.piet.specs.Moves.{ShutBefore, FirstOpen, NoMove, all-shut, lost-first}
 
 module _ {e : Edition} {p : Picture} {map : List ℕ} (S : Sound p) (L : length map ≡ codels p) where
   -- a lost slide comes before it, after it, or is it
@@ -28,5 +28,5 @@ module _ {e : Edition} {p : Picture} {map : List ℕ} (S : Sound p) (L : length 
       open-unstuck (cols-pos S) L (valid-attempt q (F .attempt) v) (F .opens) (subst (λ (j : ℕ). Stuck p map r (attemptOf q j) e) z s)))
 
   pub not-both : {r t i : ℕ} {q u : PointerState} → Valid q → NoMove e p map r q → FirstOpen e p map r q t u i → ⊥
-  not-both v (none-open all) F = all (F .attempt) (F .few) .never _ _ _ (F .opens)
+  not-both v (all-shut all) F = all (F .attempt) (F .few) .never _ _ _ (F .opens)
   not-both v (lost-first k few s before) F = lost-or v s before F

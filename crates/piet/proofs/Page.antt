@@ -37,7 +37,7 @@ use Rattle.machine.specs.declared.Op.the-variants.{Nothing}
 use Rattle.machine.specs.declared.Stop.the-variants.{Completed}
 use Rattle.machine.specs.Machine.{Given, RunRoom, Store, does, opNumbered, exec}
 use Rattle.machine.specs.Place.{start, End}
-use Rattle.piet.specs.Moves.{ShutBefore, none-open}
+use Rattle.piet.specs.Moves.{ShutBefore, all-shut}
 use Rattle.piet.specs.Follows.{Follows}
 use Rattle.piet.specs.Page.{colours, line, column, commands, right, down, left, up, toLeft}
 use Rattle.base.proofs.Clash.{clash}
@@ -191,7 +191,7 @@ turning c = refl
 -- the program ends after eight failed attempts (rule 14.7), while steps are left and no input is awaited
 pub ends-after-eight : {p : Picture} {map : List ℕ} {g : Given} {room : RunRoom} {e : End} → Follows p map g room e → e .at .steps < g .terms .limit
     → e .at .store .reading .awaiting ≡ false → ShutBefore (g .terms .edition) p map (e .at .region) (e .at .store .pointers) 8 → e .stop ≡ Completed
-ends-after-eight F l a N = F .completed .1 (l, a, none-open N)
+ends-after-eight F l a N = F .completed .1 (l, a, all-shut N)
 
 -- a slide goes on from a station at which it is not lost: straight on over white (rule 14.8)
 pub slides-on : {p : Picture} {rule : Rule} {past t : Trail} {r c r′ c′ : ℕ} {s : PointerState} {o : Slid} → rule (station r c s ∷ past) ≡ false

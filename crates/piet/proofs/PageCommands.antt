@@ -11,11 +11,10 @@ use lib.ListN.{length}
 use lib.IntN.{ℤ, pos, negsuc, natAbs, negℤ, _+ℤ_, _-ℤ_, _*ℤ_}
 use lib.Signed.{ltZ, quotZ}
 use Rattle.base.specs.declared.edition.Edition.{Edition}
-use Rattle.base.specs.declared.edition.Edition.the-variants.{Rust, Page}
-use Rattle.word.specs.Word.{residue, wrap, isZero, quotient, rustRemainder, pageRemainder, remainder}
+use Rattle.word.specs.Word.{residue, wrap, isZero, quotient}
 use Rattle.word.proofs.Wrapping.{wrap-fits, quot-fits, residue-lt}
 use Rattle.word.proofs.Signed.{is-not-zero}
-use Rattle.word.proofs.FloorLaws.{left-pos}
+use Rattle.word.proofs.FloorLaws.{remainder-pos}
 use Rattle.colour.specs.Instruction as instruction
 use Rattle.picture.specs.Picture.{Picture, codels}
 use Rattle.region.specs.Tally.{tally}
@@ -178,21 +177,13 @@ module _ (a b : ℤ) (s : List ℤ) where
   unfolding Instr.combined
   not-greater h = combines Gt a b (pos 0) s (λ e. rw h)
 
--- mod by a positive top is the residue, in both editions
-residue-comes : (a : ℕ) (b : ℤ) → 0 < a → InRange (pos a) → (e : Edition) → Instr.combined e Mod b (pos a) ≡ pos (residue b a) ∷ []
-unfolding Instr.combined rustRemainder pageRemainder remainder
-residue-comes a b h r Rust = rw (ne-eqb a 0 (λ e. omega arith), ne-eqb a (2 ^ 63) (λ e. omega arith))
-residue-comes a b h r Page = rw (is-not-zero (pos a) some) (ap (λ (z : ℤ). z ∷ []) (left-pos b a some .0))
-  where
-    some : pos a ≡ pos 0 → ⊥
-    some e = let z : a ≡ 0 = cc in omega arith
-
 -- mod has the sign of a: for a positive top a it is r from 0 to a - 1, where b is a multiple of a and r
 pub modulo : (a : ℕ) (b : ℤ) (s : List ℤ) → 0 < a → InRange (pos a)
     → (r : ℕ) × Changes (Pair Mod) (pos a ∷ b ∷ s) (pos r ∷ s) × (r < a) × ((q : ℤ) × (b ≡ q *ℤ pos a +ℤ pos r))
+unfolding Instr.combined
 modulo a b s h r = (
   residue b a,
-  combines Mod (pos a) b (pos (residue b a)) s (residue-comes a b h r),
+  combines Mod (pos a) b (pos (residue b a)) s (remainder-pos a b h r),
   residue-lt b a h,
   residue-differs a b h,
 )

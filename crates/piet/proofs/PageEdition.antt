@@ -4,6 +4,7 @@
 --     page-roll-bad-depth    a roll to a negative depth, or to one above the values there are, is ignored (rule 14.14)
 --     page-char-in           in (char) reads one character, and the next read goes on behind it (rule 14.15)
 --     page-lost-slide        a slide without a way out ends the program (rule 14.8)
+--     page-none-past         and no move is made past it
 -- Assumes nothing.
 use mathlib.Core.Path.{_≡_, refl, sym, ap, subst, _∙_}
 use mathlib.Core.Bool.{false}
@@ -17,7 +18,8 @@ use Rattle.base.specs.declared.edition.Edition.the-variants.{Page}
 use Rattle.word.specs.Word.{residue, isZero, quotient, floorQuotient, pageRemainder, remainder}
 use Rattle.word.proofs.Signed.{is-not-zero}
 use Rattle.word.proofs.FloorLaws.{left-pos, left-neg}
-use Rattle.flow.specs.Pointer.{attemptOf}
+use Rattle.flow.specs.declared.PointerState.{PointerState}
+use Rattle.flow.specs.Pointer.{Valid, attemptOf}
 use Rattle.text.specs.Line.{lineAt, lineEnd}
 use Rattle.text.specs.Utf8.{Utf8, encode}
 use Rattle.text.specs.Input.{charOf, charNext}
@@ -27,16 +29,17 @@ use Rattle.text.proofs.ReadingLaws.{takes-of}
 use Rattle.text.proofs.OneChar.{one-char, rest-left, line-taken}
 use Rattle.stack.specs.declared.Pairing.the-variants.{Div, Mod}
 use Rattle.stack.specs.Instr as Instr
-use Rattle.picture.specs.Picture.{Picture}
+use Rattle.picture.specs.Picture.{Picture, codels, Sound}
 use Rattle.exit.specs.declared.attempt.Way.the-variants.{Astray}
-use Rattle.exit.specs.Opens.{Tried, Stuck, lost}
+use Rattle.exit.specs.Opens.{Tried, lost}
 use Rattle.machine.specs.declared.Op.the-variants.{Pair, Roll, CharIn}
 use Rattle.machine.specs.declared.Stop.the-variants.{Completed}
 use Rattle.machine.specs.Machine.{Given, RunRoom, Store, does, exec, withStack, withUsed}
 use Rattle.machine.specs.Place.{End}
-use Rattle.piet.specs.Moves.{ShutBefore, NoMove, lost-first}
+use Rattle.piet.specs.Moves.{ShutBefore, FirstOpen, NoMove, lost-first}
 use Rattle.piet.specs.Follows.{Follows}
 use Rattle.piet.specs.Page.{ChangesIn, OfSign}
+use Rattle.piet.proofs.MoveLaws.{not-both}
 use Rattle.piet.proofs.PageCommands.{in-character}
 
 -- ---- instructions on the stack
@@ -93,3 +96,8 @@ page-lost-slide {p} {map} {g} {e = e} h F l w k a b few t before = F .completed 
   where
     over : NoMove (g .terms .edition) p map (e .at .region) (e .at .store .pointers)
     over = subst (λ (x : Edition). NoMove x p map (e .at .region) (e .at .store .pointers)) (sym h) (lost-first k few (lost t) before)
+
+-- and there is no move from such a place, however a run comes there
+pub page-none-past : {p : Picture} {map : List ℕ} {r t i : ℕ} {q u : PointerState} → Sound p → length map ≡ codels p → Valid q
+    → (k a b : ℕ) → k < 8 → Tried p map r (attemptOf q k) (Astray a b) → ShutBefore Page p map r q k → FirstOpen Page p map r q t u i → ⊥
+page-none-past S L v k a b few t before F = not-both S L v (lost-first k few (lost t) before) F

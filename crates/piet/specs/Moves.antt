@@ -1,4 +1,5 @@
--- A move of a picture, judged by walking codels: which of a region's eight attempts is taken (rules 5.5, 8.3, 16.6). Assumes nothing.
+-- A move of a picture, judged by walking codels: which of a region's eight attempts is taken (rules 5.5, 8.3, 16.6). Assumes
+-- nothing.
 use mathlib.Core.List.{List}
 use Prim.Native.Nat.{ℕ, _<_}
 use Rattle.base.specs.declared.edition.Edition.{Edition}
@@ -19,8 +20,7 @@ module _ (e : Edition) (p : Picture) (map : List ℕ) (r : ℕ) (q : PointerStat
     pub opens : Opens p map r (attemptOf q attempt) target u i
     pub before : ShutBefore attempt
 
-  -- no move is left: none of the eight is open (rule 11.1); or the first of them that is open or, in edition 2, a lost slide is a
-  -- lost slide (rule 16.6)
+  -- no move is left: all eight are passed over (rule 11.1), or the first that is not is a lost slide (rule 16.6)
   pub data NoMove : Type 0 where
-    none-open : ShutBefore 8 → NoMove
+    all-shut : ShutBefore 8 → NoMove
     lost-first : (k : ℕ) → k < 8 → Stuck p map r (attemptOf q k) e → ShutBefore k → NoMove

@@ -1,5 +1,5 @@
--- The public page's tables and commands as it has them (rule 14): what proofs Page, PageCommands, PageRoll and PageEdition compare our
--- definitions with. Assumes nothing.
+-- The public page's tables and commands as it has them (rule 14): what proofs Page, PageCommands, PageRoll and PageEdition
+-- compare our definitions with. Assumes nothing.
 use mathlib.Core.Path.{_≡_}
 use mathlib.Core.List.{List, [], _∷_, _++_}
 use Prim.Native.Nat.{ℕ, zero, suc, _+_, _-_, _/_, _%_, _^_, _<_}

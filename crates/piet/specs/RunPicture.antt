@@ -4,8 +4,8 @@ use mathlib.Core.List.{List, [], _∷_, _++_}
 use Prim.Native.Nat.{ℕ, suc, _<_}
 use lib.ListN.{length, take}
 use lib.IntN.{ℤ}
-use Rattle.base.specs.Edition.{unknownEdition, editionOf}
-use Rattle.base.specs.Numbers.{Numbers, numbers, Row, row, first}
+use Rattle.base.specs.Edition.{editionOf}
+use Rattle.base.specs.Numbers.{Numbers, numbers, Row, first}
 use Rattle.base.specs.Lent.{lent}
 use Rattle.picture.specs.Picture.{Picture, picture, codels}
 use Rattle.colour.specs.Classify as classifying
@@ -43,11 +43,11 @@ pub record Lends : Type 0 where
 abbrev pub askedPicture : Asked → Picture
 askedPicture a = picture (a .height) (a .width) (a .codel) (coloursUnder (a .pixels) (a .setting))
 
--- an unknown edition, then the refusals of classifying, then those of building (rule 12.5): the tables, one after the other; the
--- last five numbers are the lengths of the lent slices
+-- an unknown edition, then the refusals of classifying, then those of building (rule 12.5): the tables, one after the other;
+-- the last five numbers are the lengths of the lent slices
 unfoldable pub refusals : Asked → ℕ → ℕ → ℕ → ℕ → ℕ → List Row
 refusals a colours map rows exits work =
-    row (unknownEdition (a .asks .edition)) (numbers 15 (0 ∷ 0 ∷ []))
+    building.editionRow (a .asks .edition)
     ∷ (classifying.refusals (a .pixels) (a .height) (a .width) (a .setting) colours ++ building.pictureRefusals (askedPicture a) map rows exits work)
 
 unfoldable pub refusal : Asked → ℕ → ℕ → ℕ → ℕ → ℕ → Numbers
@@ -62,8 +62,8 @@ abbrev pub numbered : Pictured → Numbers
 numbered (Refused number y x) = numbers number (y ∷ x ∷ [])
 numbered (Finished e regions) = numbers 0 (resultOf e ++ (regions ∷ []))
 
--- what a call leaves that is not refused, where the run ends in e: one edition is that of the table and of the run. Demand 3 is
--- `follows`: the run is that of the picture, its regions numbered in the map by their first codels.
+-- what a call leaves that is not refused, where the run ends in e: one edition is that of the table and of the run. Demand 3
+-- is `follows`: the run is that of the picture, its regions numbered in the map by their first codels.
 pub record RanPicture (a : Asked) (l l′ : Lends) (e : End) : Type 0 where
   pub colours : l′ .colours ≡ lent (coloursUnder (a .pixels) (a .setting)) (l .colours)
   pub regions : ℕ

@@ -260,8 +260,8 @@ pub extern "C" fn piet_determine_runs_forever(
     told.number
 }
 
-// A run over a table in an edition; answer: status, steps, region, dp, cc, depth, outputs, used, and the number lines skipped: at the end of
-// the input, blank, not a number, out of range.
+// A run over a table in an edition; answer: status, steps, region, dp, cc, depth, outputs, used, and the number lines
+// skipped: at the end of the input, blank, not a number, out of range.
 #[no_mangle]
 pub extern "C" fn piet_run(
     n: usize,

@@ -1,5 +1,6 @@
 -- What one Roll costs (rule 9.11): its exchanges write each of the cells that turn at most twice and no other cell, whatever a is, and what
--- `roll` leaves in the cells is what its exchanges make of them once those of a and n are cleared; at a bad depth edition 2 writes nothing.
+-- `roll` leaves in the cells is what its exchanges make of them once those of a and n are cleared; at a bad depth the cells are in
+-- edition 2 as they were.
 --     roll-twice, roll-elsewhere    how often a cell is written
 --     roll-few                      how many writes there are in all
 --     unwritten                     what is not counted as written keeps its value
@@ -232,7 +233,7 @@ module _ (c : List ℤ) (d : ℕ) (h : 2 ≤ d) (l : Lies c d) where
       does-only (Instr.roll e) c d c′ made n (length-exchanged (rollExchanges (stackOf c d)) cleared ∙ simp length-set) d′ (d - 2) p
       (does-roll e o) .1
 
-  -- at a bad depth edition 2 writes nothing (rule 16.2)
+  -- at a bad depth the cells are in edition 2 as they were (rule 16.2)
   pub roll-untouched : badAt c d ≡ true
       → (c′ : List ℤ) (d′ : ℕ) → length c′ ≡ length c → Does (Instr.roll Page) c d c′ d′ → c′ ≡ c
   unfolding undone

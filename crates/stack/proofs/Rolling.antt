@@ -73,7 +73,7 @@ module _ (e : Edition) {c : List ℤ} {d : ℕ} (h : 2 ≤ d) where
   pub roll-none : {c₁ : List ℤ} {d₁ : ℕ} → badAt c d ≡ false → Does (drop 2) c d c₁ d₁
       → places (getD c (d - 2) (pos 0)) (d - 2) ≡ 0 → Does (Instr.roll e) c d c₁ d₁
   unfolding Instr.roll Instr.rolled
-  roll-none b p z = record { lies = p .lies; is = rest h p ∙ rw (two c d h, stackOf-length c (d - 2), b, z) refl }
+  roll-none b p z = record { lies = p .lies; is = rest h p ∙ rw (two c d h, stackOf-length c (d - 2), b, sym (places-good _ _ b) ∙ z) refl }
 
   pub roll-some : {c₁ c₂ : List ℤ} {d₁ : ℕ} → badAt c d ≡ false → Does (drop 2) c d c₁ d₁
       → (m k : ℕ) → m ≡ places (getD c (d - 2) (pos 0)) (d - 2) → 0 < m → k ≡ residue (getD c (d - 1) (pos 0)) m
@@ -82,5 +82,5 @@ module _ (e : Edition) {c : List ℤ} {d : ℕ} (h : 2 ≤ d) where
   roll-some b p m k f g r q = record {
     lies = q .lies;
     is = q .is ∙ ap (Instr.turn m k) (rest h p)
-        ∙ rw (two c d h, stackOf-length c (d - 2), b, ← f, ne-eqb m 0 (λ z. omega arith), r) refl;
+        ∙ rw (two c d h, stackOf-length c (d - 2), b, ← (f ∙ places-good _ _ b), ne-eqb m 0 (λ z. omega arith), r) refl;
   }

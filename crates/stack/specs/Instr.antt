@@ -20,15 +20,15 @@ unfoldable pub pop : List ℤ → List ℤ
 pop [] = []
 pop (a ∷ s) = s
 
--- the stack after a Div, Mod or Roll that cannot be done: its two operands are gone (rules 9.4, 9.5, 9.8); in edition 2 they stay
--- (rule 16.2)
+-- the stack after a Div, Mod or Roll that cannot be done: its two operands are gone (rules 9.4, 9.5, 9.8); in edition 2 they
+-- stay (rule 16.2)
 unfoldable pub undone : Edition → List ℤ → List ℤ
 undone e s = byEdition e (drop 2 s) s
 
 -- what comes stands in the place of the two uppermost; where nothing comes the edition decides
 unfoldable pub inPlace : Edition → List ℤ → List ℤ → List ℤ
 inPlace e [] s = undone e s
-inPlace e (v ∷ vs) s = v ∷ drop 2 s
+inPlace e (v ∷ vs) s = (v ∷ vs) ++ drop 2 s
 
 -- a is on top, b below it, and what f gives of b and a comes in their place; one value is too few, and stays (rule 9.1)
 unfoldable pub binary : Edition → (ℤ → ℤ → List ℤ) → List ℤ → List ℤ
@@ -81,4 +81,4 @@ rolled m a s = cond (eqb m 0) s (turn m (residue a m) s)
 unfoldable pub roll : Edition → List ℤ → List ℤ
 roll e [] = []
 roll e (a ∷ []) = a ∷ []
-roll e (a ∷ (n ∷ s)) = cond (badDepth n (length s)) (undone e (a ∷ (n ∷ s))) (rolled (places n (length s)) a s)
+roll e (a ∷ (n ∷ s)) = cond (badDepth n (length s)) (undone e (a ∷ (n ∷ s))) (rolled (natAbs n) a s)

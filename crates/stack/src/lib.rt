@@ -194,8 +194,8 @@ fn bad_depth(n: i64, d: usize) -> bool
     d < m
 }
 
-// Roll: a on top of the depth n. Where n is bad the edition says what becomes of the two; else both are gone. a is taken modulo n,
-// so that -2^63 needs no case of its own (rules 9.8, 16.2).
+// Roll: a on top of the depth n. Where n is bad the edition says what becomes of the two; else both are gone. a is taken
+// modulo n, so that -2^63 needs no case of its own (rules 9.8, 16.2).
 pub fn roll(stack: &mut [i64], depth: usize, edition: Edition) -> usize
     requires { ⌜ Lies (now stack) depth ⌝ }
     ensures { λ r. ⌜ Does (Instr.roll edition) (now (stack .entry)) depth (now (stack .exit)) r ⌝ }

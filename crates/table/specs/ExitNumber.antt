@@ -1,4 +1,4 @@
--- The exit number (rule 7.3). Assumes nothing.
+-- The exit number (rules 7.3, 16.5). Assumes nothing.
 use Prim.Native.Nat.{ℕ, _+_, _-_, _*_, _/_, _%_}
 use Rattle.base.specs.declared.edition.Edition.{Edition}
 use Rattle.base.specs.Edition.{byEdition}
@@ -17,7 +17,7 @@ stateOf exit = (exit - 1) / 65536 % 8
 abbrev pub instructionOf : ℕ → ℕ
 instructionOf exit = (exit - 1) / 524288
 
--- the largest: that of region 65,535 in state 7 with instruction 17; one above it is refusal 10 (rule 12.2)
+-- the largest: that of region 65,535 in state 7 with instruction 17; in edition 1 a larger one is refusal 10 (rule 12.2)
 abbrev pub largestExit : ℕ
 largestExit = 9437184
 

@@ -12,7 +12,6 @@ use mathlib.Core.List.{List, [], _∷_, append-nil}
 use native.Mathlib.Omega.{arith}
 use lib.IntN.{ℤ, pos}
 use lib.ListN.{length, take, drop}
-use Rattle.base.specs.Edition.{byEdition}
 use Rattle.base.specs.declared.edition.Edition.{Edition}
 use Rattle.base.specs.declared.edition.Edition.the-variants.{Rust, Page}
 use Rattle.base.proofs.Clash.{clash}
@@ -20,7 +19,7 @@ use Rattle.text.specs.Line.{lineAt, lineEnd}
 use Rattle.text.specs.Utf8.{encode, encodes, Utf8, Valid, IsChar}
 use Rattle.text.specs.Trim.{Trims}
 use Rattle.text.specs.Number.{parsed}
-use Rattle.text.specs.Input.{charOf, remains, intOf, pushOrSkip, Next, wholeLine, charNext, Takes, reads, bad}
+use Rattle.text.specs.Input.{charOf, remains, intOf, pushOrSkip, Next, wholeLine, afterChar, charNext, Takes, reads, bad}
 use Rattle.text.specs.declared.number.Number.{Number}
 use Rattle.text.specs.declared.number.Number.the-variants.{Value, Skipped}
 use Rattle.text.specs.declared.number.Reason.{Reason}
@@ -30,7 +29,7 @@ use Rattle.text.proofs.Utf8Laws.{utf8-none, head-is}
 use Rattle.text.proofs.LineLaws.{line-none, line-part}
 
 -- where both editions say the same, that is what is chosen
-agreed : (e : Edition) (x y n : ℕ) → x ≡ n → y ≡ n → byEdition e x y ≡ n
+agreed : (e : Edition) (x y n : ℕ) → x ≡ n → y ≡ n → afterChar e x y ≡ n
 agreed Rust x y n h k = h
 agreed Page x y n h k = k
 
@@ -89,6 +88,6 @@ module _ (l cs : List ℕ) (u : Utf8 l cs) where
     unfolding encodes
     first-size = rw (head-is c l (drop n l) (k .bytes) cs u .1, append-nil (encode c)) (omega (arith, k .next))
 
-    pub char-next : (e : Edition) (s : List ℕ) (at end : ℕ) → end ≡ lineEnd s at → byEdition e end (at + n) ≡ charNext e s at cs
+    pub char-next : (e : Edition) (s : List ℕ) (at end : ℕ) → end ≡ lineEnd s at → afterChar e end (at + n) ≡ charNext e s at cs
     unfolding charNext
-    char-next e s at end is = ap₂ (byEdition e) is (ap (λ (x : ℕ). at + x) first-size)
+    char-next e s at end is = ap₂ (afterChar e) is (ap (λ (x : ℕ). at + x) first-size)

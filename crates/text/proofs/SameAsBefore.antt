@@ -1,7 +1,7 @@
 -- The reasons to skip a line (rule 10.8) change nothing else. The earlier definition, which tells no reason, stands here, and what
 -- an input instruction takes still meets it, the reason left out: the same lines give the same numbers (rule 10.3), are skipped and
--- stop the run with BadInput, and the same bytes are consumed. Nor does edition 2 change edition 1 (rule 16.4): there CharIn still
--- takes the whole line.
+-- stop the run with BadInput, and the same bytes are consumed. Nor does edition 2 change edition 1 (rule 16.4): in it
+-- CharIn still takes the whole line.
 --     same-as-before         IntIn
 --     same-as-before-char    CharIn in edition 1
 -- Assumes nothing.

@@ -43,10 +43,14 @@ Next = List ℕ → ℕ → List ℕ → ℕ
 abbrev pub wholeLine : Next
 wholeLine s at cs = lineEnd s at
 
--- CharIn's: after the whole line (rule 10.1); in edition 2 after the first character alone, and the rest of the line is left for
--- the next read (rule 16.4). The choice by edition stands here and nowhere else
+-- of the place after the line and that after its first character: the first; in edition 2 the second (rule 16.4)
+abbrev pub afterChar : Edition → ℕ → ℕ → ℕ
+afterChar e line char = byEdition e line char
+
+-- CharIn's: after the whole line (rule 10.1); in edition 2 after the first character alone, and the rest of the line is left
+-- for the next read (rule 16.4)
 unfoldable pub charNext : Edition → Next
-charNext e s at cs = byEdition e (wholeLine s at cs) (at + length (encodes (take 1 cs)))
+charNext e s at cs = afterChar e (wholeLine s at cs) (at + length (encodes (take 1 cs)))
 
 -- An instruction reads f of a line, or of what is left of one, and goes on where `next` says. All that is left of the line is
 -- judged, however little of it is taken, and nothing after it: where it is not UTF-8 that is BadInput (rules 11.6, 16.4). The

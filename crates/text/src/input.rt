@@ -8,8 +8,7 @@ use crate::utf8::is_utf8;
 use crate::white::trim;
 use base::edition::Edition;
 ghost use mathlib.Core.Path.{_≡_};
-ghost use Rattle.base.specs.Edition.{byEdition};
-ghost use Rattle.text.specs.Input.{Takes, intOf, charOf, wholeLine, charNext};
+ghost use Rattle.text.specs.Input.{Takes, intOf, charOf, wholeLine, afterChar, charNext};
 ghost use Rattle.text.specs.Line.{lineEnd};
 
 // A value to push, or why there is none, with the place where reading goes on; or a line that is not UTF-8.
@@ -58,7 +57,7 @@ pub fn int_in(input: &[u8], at: usize) -> Taken
 
 // Where reading goes on after a character: at the end of its line, or in edition 2 at the place next to it (rule 16.4).
 fn after_char(edition: Edition, end: usize, next: usize) -> usize
-    ensures { λ r. ⌜ r ≡ byEdition edition end next ⌝ }
+    ensures { λ r. ⌜ r ≡ afterChar edition end next ⌝ }
 {
     match edition {
         Edition::Rust => end,
@@ -66,7 +65,7 @@ fn after_char(edition: Edition, end: usize, next: usize) -> usize
     }
 }
 
-// CharIn: the line's first character, which is the newline where it has no other (rule 10.2).
+// CharIn: the first character of what is left of the line, which is the newline where there is no other (rules 10.2, 16.4).
 pub fn char_in(input: &[u8], at: usize, edition: Edition) -> Taken
     ensures { λ r. ⌜ Takes charOf (charNext edition) (now (input .entry)) at r ⌝ }
 {

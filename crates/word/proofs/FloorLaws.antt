@@ -1,14 +1,21 @@
--- What division rounded down leaves of b (rule 16.3): for a above 0 the residue of b by a, for a below 0 the negation of -b's by -a. So
--- it is 0, or of a's sign and smaller than a. Assumes nothing.
+-- What division rounded down leaves of b (rule 16.3): for a above 0 the residue of b by a, for a below 0 the negation of -b's
+-- by -a. So it is 0, or of a's sign and nearer to 0 than a.
+--     left-pos, left-neg, left-fits
+--     remainder-pos    by a number above 0 both editions have the residue
+-- Assumes nothing.
 use mathlib.Core.Path.{_≡_, refl, sym, ap, _∙_}
-use Prim.Native.Nat.{ℕ, zero, suc, _+_, _-_, _*_, _/_, _%_, _<_}
+use mathlib.Core.List.{[], _∷_}
+use Prim.Native.Nat.{ℕ, zero, suc, _+_, _-_, _*_, _/_, _%_, _^_, _<_}
 use native.Mathlib.Nat.{mul-suc, mul-comm, mod-lt, div-add-mod'}
 use native.Mathlib.Omega.{arith}
-use borrow.Author.Tests.{le-ltb}
+use borrow.Author.Tests.{le-ltb, ne-eqb}
 use lib.IntN.{ℤ, pos, negsuc, negℤ, _+ℤ_, _-ℤ_, _*ℤ_, negℤ-negℤ, negℤ-+ℤ}
 use mir.Syntax.{w64}
 use mir.Val.{SFits}
-use Rattle.word.specs.Word.{residue, floorBy, floorQuotient}
+use Rattle.base.specs.declared.edition.Edition.{Edition}
+use Rattle.base.specs.declared.edition.Edition.the-variants.{Rust, Page}
+use Rattle.word.specs.Word.{residue, floorBy, floorQuotient, rustRemainder, pageRemainder, remainder}
+use Rattle.word.proofs.Signed.{is-not-zero}
 use Rattle.word.proofs.Wrapping.{residue-lt, mag-neg}
 
 -- what is left of b
@@ -59,3 +66,12 @@ left-neg b k = (
 pub left-fits : (b a : ℤ) → SFits w64 a → (a ≡ pos 0 → ⊥) → SFits w64 (left b a)
 left-fits b (pos m) f h = let l = left-pos b m h in rw (l .0) (omega (arith, f .sfits))
 left-fits b (negsuc k) f h = let l = left-neg b k in rw (l .0) (record { sfits = mag-neg (residue (negℤ b) (suc k)) (omega (arith, f .sfits)) })
+
+-- by a number above 0 both editions have the residue
+pub remainder-pos : (a : ℕ) (b : ℤ) → 0 < a → a < 2 ^ 63 → (e : Edition) → remainder e b (pos a) ≡ pos (residue b a) ∷ []
+unfolding rustRemainder pageRemainder remainder
+remainder-pos a b h r Rust = rw (ne-eqb a 0 (λ e. omega arith), ne-eqb a (2 ^ 63) (λ e. omega arith))
+remainder-pos a b h r Page = rw (is-not-zero (pos a) some) (ap (λ (z : ℤ). z ∷ []) (left-pos b a some .0))
+  where
+    some : pos a ≡ pos 0 → ⊥
+    some e = let z : a ≡ 0 = cc in omega arith

@@ -45,7 +45,7 @@ unfoldable pub floorQuotient : ℤ → ℤ → ℤ
 floorQuotient b (pos m) = floorBy b m
 floorQuotient b (negsuc k) = floorBy (negℤ b) (suc k)
 
--- what that quotient leaves of b: 0, or of a's sign and smaller than a; by 0 nothing comes (rule 16.3)
+-- what that quotient leaves of b: 0, or of a's sign and nearer to 0 than a; by 0 nothing comes (rule 16.3)
 unfoldable pub pageRemainder : ℤ → ℤ → List ℤ
 pageRemainder b a = cond (isZero a) [] ((b -ℤ a *ℤ floorQuotient b a) ∷ [])
 

@@ -1,4 +1,5 @@
-// The machine's numbers: i64 as the Rust release build has it, with contracts over the integers. Mod alone goes by the edition.
+// The machine's numbers: i64 as the Rust release build has it, with contracts over the integers. Mod alone goes by the
+// edition.
 ghost use mathlib.Core.Path.{_≡_};
 ghost use Prim.Native.Nat.{_+_, _*_, _-_, _%_, _^_, _<_, _≤_};
 ghost use lib.IntN.{pos, negsuc, _+ℤ_, _-ℤ_, _*ℤ_, natAbs};
@@ -149,8 +150,8 @@ fn floor_rem(b: i64, a: i64) -> i64
     r
 }
 
-// What b / a rounded down leaves of b: 0, or of a's sign and smaller than a; by 0 nothing. By -1 it is 0, found with no division,
-// which would overflow at -2^63 (rule 16.3).
+// What b / a rounded down leaves of b: 0, or of a's sign and nearer to 0 than a; by 0 nothing. By -1 it is 0, found with no
+// division, which would overflow at -2^63 (rule 16.3).
 fn modulo_page(b: i64, a: i64) -> Divided
     ensures { λ r. ⌜ values r ≡ pageRemainder b a ⌝ }
 {

@@ -1,5 +1,5 @@
--- `word::floor_rem` meets its contract: on a's side of 0 the remainder is what is left, on the other it falls short of it by a. The laws
--- for a below 0 are those for a above 0, of the negated numbers. Assumes nothing.
+-- `word::floor_rem` meets its contract: on a's side of 0 the remainder is what is left, on the other it falls short of it by a.
+-- The laws for a below 0 are those for a above 0, of the negated numbers. Assumes nothing.
 use mathlib.Core.Path.{_≡_, refl, sym, ap, _∙_}
 use mathlib.Core.Bool.{true, false, true≢false}
 use Prim.Native.Nat.{ℕ, zero, suc, _%_}

@@ -1,4 +1,5 @@
--- `word::rem` meets its contract: a quotient by any number but 0 and -1 fits, and the remainder is no larger than b. Assumes nothing.
+-- `word::rem` meets its contract: a quotient by any number but 0 and -1 fits, and the remainder is no larger than b. Assumes
+-- nothing.
 use lib.Signed.{mag-rem}
 use mir.ValLaws.{sfits-le}
 use mir.Facts.{toZ-ofZ}

@@ -1,4 +1,4 @@
-//! The examples that the second edition was written with, and its cases one by one.
+//! The examples of the second edition, and its cases one by one.
 use super::*;
 use crate::paint::{drawn, ops, row};
 use piet_core::instruction::Instruction::{self, *};

@@ -1,5 +1,5 @@
--- `text::input::char_in` meets its contract: at the end of the input, by a line that has a character, and by one that is not UTF-8.
--- Where reading goes on is `after_char`'s to choose: nothing here asks for the edition.
+-- `text::input::char_in` meets its contract: at the end of the input, by a line that has a character, and by one that is not
+-- UTF-8. Where reading goes on is `after_char`'s to choose: nothing here asks for the edition.
 -- Assumes nothing.
 use Prim.Native.Nat.{ℕ, _-_, _<_}
 use mathlib.Core.Path.{refl, sym, ap, _∙_}

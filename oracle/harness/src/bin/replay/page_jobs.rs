@@ -28,7 +28,7 @@ fn lost_slides() -> Vec<Question> {
     pictures.iter().flat_map(|p| [0, 1, 9].map(|limit| question(p.clone(), limit, b""))).collect()
 }
 
-/// What the second edition was written with: operands that stay, the sign of Mod.
+/// The examples of the second edition: operands that stay, the sign of Mod.
 fn examples_on_values() -> Vec<Question> {
     const MODULO: [[i64; 2]; 8] = [
         [7, -3],

@@ -20,7 +20,7 @@ pub fn pictures() -> Vec<Picture> {
     all
 }
 
-/// Those that the second edition was written with: a slide that is lost, the smallest runs that end by one, and a node that is
+/// The examples of the second edition: a slide that is lost, the smallest runs that end by one, and a node that is
 /// found though both slides are lost.
 pub fn examples() -> Vec<Picture> {
     let drawings: [&[&str]; 6] = [
