@@ -16,7 +16,7 @@ const LONGEST: u32 = 5;
 pub fn jobs() -> Vec<Job> {
     let mut random = Random::seeded(SEED);
     let mut all = [lost_slides(), examples_on_values(), depths(), two_values(), rolls()].concat();
-    all.extend([lines(), rooms(), loops()].concat());
+    all.extend([example_lines(), lines(), rooms(), loops()].concat());
     all.extend((0..BY_CHANCE).map(|_| by_chance(&mut random)));
     let of_page = |question| Job { editions: Editions { build: PAGE, run: PAGE }, question };
     all.into_iter().map(of_page).chain(across()).collect()
@@ -71,6 +71,19 @@ fn rolls() -> Vec<Question> {
         depths.iter().flat_map(|&n| [i64::MIN, -1, 0, 2].map(|a| rolled(n, a))).collect();
     all.extend([[0, 1], [1, 1], [-1, 0]].map(|pair| on_numbers(&pair, &[Roll], 0)));
     all
+}
+
+/// The lines of the examples, with the instructions that read them there.
+fn example_lines() -> Vec<Question> {
+    let programs: [(&[Instruction], &[u8]); 6] = [
+        (&[CharIn, CharIn], b"ab\ncd\n"),
+        (&[CharIn, IntIn], b"a12\n3"),
+        (&[CharIn, IntIn, IntIn], b"5\n6\n"),
+        (&[CharIn], b"a\xFF\n"),
+        (&[CharIn, CharIn, CharIn], b"a\n\xFF"),
+        (&[CharIn, IntIn], b"a\n\xFF"),
+    ];
+    programs.map(|(instructions, input)| program(&ops(instructions), 0, input)).into()
 }
 
 /// Lines that CharIn and IntIn share.
