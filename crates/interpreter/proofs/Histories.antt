@@ -3,6 +3,8 @@
 --     history-only     so many exits from one place are one list, and lead to one place
 --     history-skips    of each reason as many number lines are counted as its steps skipped for it
 --     run-few          and all in all no more than steps were made
+--     step-judged, run-judged    reading stands where it may after a step, and after a run (rule 16.4)
+--     bad-input-first  a run stops for BadInput only at the first read of a line
 --     history-ends     where they lead is the last of the regions entered
 --     never-max        a step never halts with MaxSteps
 --     at-limit         MaxSteps comes exactly at the limit
@@ -17,14 +19,17 @@ use native.Mathlib.Omega.{arith}
 use lib.ListN.{length, getD}
 use Rattle.base.proofs.Clash.{clash}
 use Rattle.machine.specs.declared.Stop.{Stop}
-use Rattle.machine.specs.declared.Stop.the-variants.{Completed, MaxSteps, NeedsInput}
+use Rattle.machine.specs.declared.Stop.the-variants.{Completed, MaxSteps, NeedsInput, BadInput}
 use Rattle.text.specs.declared.number.Reason.{Reason}
+use Rattle.text.specs.Input.{withinLine}
+use Rattle.text.proofs.Judging.{judged-start}
 use Rattle.machine.specs.Counts.{countOf, total, times}
-use Rattle.machine.specs.Machine.{underLimit, Out, keeps, stops, fitting, withPointers}
+use Rattle.machine.specs.Machine.{underLimit, JudgedIn, Out, keeps, stops, fitting, withPointers}
 use Rattle.machine.specs.Skipped.{skipped}
 use Rattle.machine.specs.Place.{Machine, start}
-use Rattle.machine.proofs.Fitting.{fit-kept, fit-stops, not-limit, exec-limit}
+use Rattle.machine.proofs.Fitting.{fit-kept, fit-stops, fit-bad, not-limit, exec-limit}
 use Rattle.machine.proofs.Skipping.{exec-counts, exec-total, skipped-same, times-append}
+use Rattle.machine.proofs.Judging.{exec-judged, exec-bad-first}
 use Rattle.table.specs.ExitNumber.{targetOf}
 use Rattle.table.specs.Layout.{sizeOf}
 use Rattle.interpreter.specs.Table.{pointersOf, opOf, ends}
@@ -154,6 +159,48 @@ module _ (j : Job) where
   run-few =
       let h = run-history (j .given .terms .limit) start in
       omega (arith, history-few (h .passes), h .counted)
+
+  pub step-judged : (m m′ : Machine) → stepOf j m ≡ goes m′ → JudgedIn (j .given) (m .store .reading) → JudgedIn (j .given) (m′ .store .reading)
+  step-judged m m′ e h =
+      let w = exitFrom j m in
+      exec-judged (j .given) (sizeOf (j .rows) (m .region)) (opOf w) (withPointers (pointersOf w) (m .store)) h
+      (fit-kept (j .room) (effectOf j w m) (step-kept m m′ e .store))
+
+  history-judged : {m m′ : Machine} {ws : List ℕ} → Passes j m ws m′ → JudgedIn (j .given) (m .store .reading)
+      → JudgedIn (j .given) (m′ .store .reading)
+  history-judged stays h = h
+  history-judged {m} (passes {m′ = a} s p) h = history-judged p (step-judged m a s h)
+
+  pub run-judged : (k : ℕ) (m : Machine) → JudgedIn (j .given) (m .store .reading) → JudgedIn (j .given) (runOf j k m .at .store .reading)
+  run-judged k m h = history-judged (run-history k m .passes) h
+
+  -- a step that stops for BadInput was the first read of a line
+  step-bad-first : (m : Machine) → stepOf j m ≡ halts BadInput → JudgedIn (j .given) (m .store .reading)
+      → withinLine (j .given .input) (m .store .reading .used) ≡ false
+  step-bad-first m e h = go (step-halts m e) refl
+    where
+      w : ℕ
+      w = exitFrom j m
+
+      go : {s : Stop} → Halts j m s → s ≡ BadInput → withinLine (j .given .input) (m .store .reading .used) ≡ false
+      go (awaits a) q = clash cc
+      go (over a b) q = clash cc
+      go (barred a b k) q =
+          exec-bad-first (j .given) (sizeOf (j .rows) (m .region)) (opOf w) (withPointers (pointersOf w) (m .store)) h
+          (fit-bad (j .room) (effectOf j w m) (k ∙ ap stops q))
+
+  pub bad-input-first : ran j .stop ≡ BadInput → withinLine (j .given .input) (ran j .at .store .reading .used) ≡ false
+  bad-input-first e = let r = run-history limit start in go (r .why)
+    where
+      limit : ℕ
+      limit = j .given .terms .limit
+
+      go : {c : ℕ} → ((ran j .stop ≡ MaxSteps) × (c ≡ limit)) ⊎ ((stepOf j (ran j .at) ≡ halts (ran j .stop)) × (c < limit))
+          → withinLine (j .given .input) (ran j .at .store .reading .used) ≡ false
+      go (inl p) = let z : BadInput ≡ MaxSteps = sym e ∙ p .0 in clash cc
+      go (inr p) =
+          step-bad-first (ran j .at) (p .0 ∙ ap halts e)
+          (run-judged limit start (judged-start (j .given .terms .edition) (j .given .input)))
 
   pub history-only : {m m′ m″ : Machine} {ws ws′ : List ℕ} → Passes j m ws m′ → Passes j m ws′ m″ → length ws ≡ length ws′
       → (ws ≡ ws′) × (m′ ≡ m″)

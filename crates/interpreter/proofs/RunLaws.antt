@@ -5,7 +5,7 @@ use Prim.Native.Nat.{ℕ, suc, _+_, _-_, _<_, _≤_}
 use native.Mathlib.Omega.{arith}
 use Rattle.machine.specs.declared.Stop.{Stop}
 use Rattle.machine.specs.declared.Stop.the-variants.{MaxSteps}
-use Rattle.machine.specs.Machine.{Given}
+use Rattle.machine.specs.Machine.{Given, JudgedIn}
 use Rattle.machine.specs.Place.{Machine, End}
 use Rattle.machine.specs.Held.{Slices}
 use Rattle.machine.proofs.Only.{AsLong}
@@ -15,6 +15,7 @@ use Rattle.interpreter.specs.Resume.{machineOf, Placed, Reaches}
 use Rattle.interpreter.specs.Moving.{nextOf, After, Steps}
 use Rattle.interpreter.specs.declared.State.{State}
 use Rattle.interpreter.specs.declared.stepping.Moved.the-variants.{To, Halted}
+use Rattle.interpreter.proofs.Histories.{step-judged}
 
 pub same-job : (rows exits : List ℕ) (g : Given) {l l₀ : Slices} → AsLong l l₀
     → jobOf rows exits g l ≡ jobOf rows exits g l₀
@@ -49,11 +50,12 @@ module _ (n : ℕ) (rows exits : List ℕ) (g : Given) (l₀ : Slices) (from : S
   -- what is left to run gives the whole run
   pub record Along (l : Slices) (at : State) : Type 0 where
     pub placed : Placed n l at
+    pub judged : JudgedIn g (at .core .reading)
     pub long : AsLong l l₀
     pub same : whole ≡ runOf job (limit - at .steps) (machineOf l at)
 
-  pub along-start : Placed n l₀ from → Along l₀ from
-  along-start p = record { placed = p; long = record { stack = refl; kinds = refl; values = refl }; same = refl }
+  pub along-start : Placed n l₀ from → JudgedIn g (from .core .reading) → Along l₀ from
+  along-start p j = record { placed = p; judged = j; long = record { stack = refl; kinds = refl; values = refl }; same = refl }
 
   module _ {l : Slices} {at : State} (a : Along l at) where
     -- what the definition does with what the step came to
@@ -69,6 +71,7 @@ module _ (n : ℕ) (rows exits : List ℕ) (g : Given) (l₀ : Slices) (from : S
     unfolding After nextOf after
     along-next {l′} {at′} h s e = record {
       placed = s .leaves .0;
+      judged = step-judged (jobOf rows exits g l) (machineOf l at) (machineOf l′ at′) (sym (s .is)) (a .judged);
       long =
           record { stack = e .stack ∙ a .long .stack; kinds = e .kinds ∙ a .long .kinds; values = e .values ∙ a .long .values };
       same =

@@ -11,7 +11,7 @@ use Rattle.stack.proofs.Cells.{stackOf-length}
 use Rattle.machine.specs.declared.Core.{Core}
 use Rattle.machine.specs.declared.Stop.{Stop}
 use Rattle.machine.specs.Output.{Emit, outsOf, Holds}
-use Rattle.machine.specs.Machine.{Given}
+use Rattle.machine.specs.Machine.{Given, JudgedIn}
 use Rattle.machine.specs.Place.{Machine, End, start}
 use Rattle.machine.specs.Held.{Slices, slices, storeOf, Stands}
 use Rattle.machine.proofs.Only.{AsLong}
@@ -23,6 +23,7 @@ use Rattle.interpreter.specs.declared.State.{State}
 use Rattle.interpreter.specs.declared.Ended.{Ended}
 use Rattle.interpreter.proofs.Clearing.{Clean}
 use Rattle.interpreter.proofs.RunLaws.{same-job}
+use Rattle.interpreter.proofs.Histories.{run-judged}
 
 -- clean cells to the end
 module _ {A : Type 0} (z : A) (c : List A) (d : ℕ) where
@@ -99,6 +100,11 @@ settled n e l l₀ r h q = (
   where
     ended : Stop → State → Ended
     ended s at = record { stop = s; at = at }
+
+-- where a run ended, reading stands where it may: it may be taken up again (rule 16.4)
+pub reached-judged : (n : ℕ) (rows exits : List ℕ) (g : Given) (l l′ : Slices) (k : ℕ) (m : Machine) (r : Ended)
+    → Reaches n (runOf (jobOf rows exits g l) k m) l′ r → JudgedIn g (m .store .reading) → JudgedIn g (r .at .core .reading)
+reached-judged n rows exits g l l′ k m r q h = subst (λ (x : Machine). JudgedIn g (x .store .reading)) (sym (q .at)) (run-judged (jobOf rows exits g l) k m h)
 
 -- slices that were cleared
 pub from-start : (n : ℕ) (rows exits : List ℕ) (g : Given) (l l₀ l′ : Slices) (r : Ended)

@@ -3,7 +3,7 @@ use mathlib.Core.Path.{_≡_}
 use mathlib.Core.List.{List}
 use Prim.Native.Nat.{ℕ, _-_, _<_, _≤_}
 use Rattle.machine.specs.Counts.{total}
-use Rattle.machine.specs.Machine.{Given, Asks, givenOf}
+use Rattle.machine.specs.Machine.{Given, Asks, givenOf, JudgedIn}
 use Rattle.machine.specs.Place.{Machine, End}
 use Rattle.machine.specs.Held.{Slices, storeOf, Stands}
 use Rattle.interpreter.specs.declared.State.{State}
@@ -41,4 +41,5 @@ Started n rows exits g l l′ r = Reaches n (endOf rows exits g l) l′ r
 -- where a run ended it may be taken up again: what `resume` asks for holds there, and it stands where the run ended
 abbrev pub Resumable : ℕ → List ℕ → List ℕ → Asks → Slices → Ran → Slices → Type 0
 Resumable n rows exits a l (Refused number) l′ = Unit {0}
-Resumable n rows exits a l (Finished e) l′ = Good n rows exits × Started n rows exits (givenOf a) l l′ e
+Resumable n rows exits a l (Finished e) l′ =
+    Good n rows exits × Started n rows exits (givenOf a) l l′ e × JudgedIn (givenOf a) (e .at .core .reading)

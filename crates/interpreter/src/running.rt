@@ -1,5 +1,5 @@
 // Steps until a stop, from any place and from the start.
-ghost use Rattle.machine.specs.Machine.{given, asks};
+ghost use Rattle.machine.specs.Machine.{given, JudgedIn, asks};
 ghost use Rattle.machine.specs.Held.{slices};
 ghost use Rattle.interpreter.specs.Table.{Good};
 ghost use Rattle.interpreter.specs.Resume.{Placed, Resumed, Started, Resumable};
@@ -37,6 +37,7 @@ pub fn resume(
 ) -> Ended
     requires { ⌜ Good n (now rows) (now exits) ⌝ }
     requires { ⌜ Placed n (slices (now stack) (now kinds) (now values)) from ⌝ }
+    requires { ⌜ JudgedIn (given terms (now input)) (from .core .reading) ⌝ }
     ensures { λ r. ⌜ Resumed n (now (rows .entry)) (now (exits .entry)) (given terms (now (input .entry))) (slices (now (stack .entry)) (now (kinds .entry)) (now (values .entry))) from (slices (now (stack .exit)) (now (kinds .exit)) (now (values .exit))) r ⌝ }
 {
     let mut at = from;

@@ -6,7 +6,7 @@ ghost use lib.ListN.{length};
 ghost use Rattle.flow.specs.Pointer.{Valid};
 ghost use Rattle.table.specs.Layout.{rowsRoom, exitsRoom};
 ghost use Rattle.table.specs.ExitNumber.{targetOf};
-ghost use Rattle.machine.specs.Machine.{given};
+ghost use Rattle.machine.specs.Machine.{given, JudgedIn};
 ghost use Rattle.machine.specs.Held.{slices};
 ghost use Rattle.interpreter.specs.Table.{exitOf, ends, Good};
 ghost use Rattle.interpreter.specs.Resume.{Placed};
@@ -63,6 +63,7 @@ fn go_through(
 ) -> Moved
     requires { ⌜ (n ≤ 65536) × (rowsRoom n ≤ length (now rows)) ⌝ }
     requires { ⌜ Placed n (slices (now stack) (now kinds) (now values)) at ⌝ }
+    requires { ⌜ JudgedIn (given terms (now input)) (at .core .reading) ⌝ }
     requires { ⌜ (0 < w) × (targetOf w < n) × (at .steps + 1 < 2 ^ 64) ⌝ }
     ensures { λ r. ⌜ ((exits : List ℕ) → Gone n (now (rows .entry)) exits (given terms (now (input .entry))) w (slices (now (stack .entry)) (now (kinds .entry)) (now (values .entry))) at (slices (now (stack .exit)) (now (kinds .exit)) (now (values .exit))) r) ⌝ }
 {
@@ -118,6 +119,7 @@ pub fn step(
 ) -> Moved
     requires { ⌜ Good n (now rows) (now exits) ⌝ }
     requires { ⌜ Placed n (slices (now stack) (now kinds) (now values)) at ⌝ }
+    requires { ⌜ JudgedIn (given terms (now input)) (at .core .reading) ⌝ }
     requires { ⌜ at .steps + 1 < 2 ^ 64 ⌝ }
     ensures { λ r. ⌜ Stepped n (now (rows .entry)) (now (exits .entry)) (given terms (now (input .entry))) (slices (now (stack .entry)) (now (kinds .entry)) (now (values .entry))) at (slices (now (stack .exit)) (now (kinds .exit)) (now (values .exit))) r ⌝ }
 {

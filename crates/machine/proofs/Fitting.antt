@@ -2,6 +2,7 @@
 --     fit-cases     it is kept, or it stops as bad input or for room, and for no other reason;
 --     fit-kept      a step that is kept did what its instruction does;
 --     fit-stops     the stops of one that is not
+--     fit-bad       BadInput comes of its line alone
 --     exec-limit    an instruction does not look at the limit
 -- Assumes nothing.
 use mathlib.Core.Path.{_≡_, refl, subst}
@@ -49,6 +50,16 @@ fit-stops room e {s} h = go (fitting room e) (fit-cases room e) h
     go : (o : Out) → Fits e o → o ≡ stops s → Unkept s
     go (keeps n) (kept q) h = clash cc
     go (stops t) (unkept q) h = let z : t ≡ s = cc in subst Unkept z q
+
+pub fit-bad : (room : RunRoom) (e : Effect) → fitting room e ≡ stops BadInput → e ≡ bad-input
+unfolding fitting
+fit-bad room bad-input h = refl
+fit-bad room (does m) h = go (ltb (room .stack) (length (m .stack))) (ltb (room .outs) (length (m .outs))) h
+  where
+    go : (t u : Bool) → cond t (stops StackFull) (cond u (stops OutputFull) (keeps m)) ≡ stops BadInput → does m ≡ bad-input
+    go true u h = clash cc
+    go false true h = clash cc
+    go false false h = clash cc
 
 pub not-completed : {s : Stop} → Unkept s → s ≡ Completed → ⊥
 not-completed bad h = clash cc

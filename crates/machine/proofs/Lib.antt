@@ -3,6 +3,7 @@ pub mod Emitting
 pub mod Executing
 pub mod Fitting
 pub mod Skipping
+pub mod Judging
 pub mod Unique
 pub mod Only
 pub mod Examples

@@ -11,7 +11,7 @@ use Rattle.flow.specs.Pointer.{rotated, switched}
 use Rattle.text.specs.declared.number.Number.{Number}
 use Rattle.text.specs.declared.input.Taken.{Taken}
 use Rattle.text.specs.declared.input.Taken.the-variants as Line
-use Rattle.text.specs.Input.{charOf, intOf, Next, wholeLine, charNext}
+use Rattle.text.specs.Input.{charOf, intOf, Next, wholeLine, charNext, Judged}
 use Rattle.text.specs.Reading.{takeOf}
 use Rattle.stack.specs.declared.Pairing.the-variants.{Add, Sub, Mul, Div, Mod, Gt}
 use Rattle.stack.specs.Instr as Instr
@@ -86,6 +86,10 @@ waitsFor r = record { used = r .used; awaiting = true; skips = r .skips }
 
 abbrev pub skipsTo : Skips → Reading → Reading
 skipsTo s r = record { used = r .used; awaiting = r .awaiting; skips = s }
+
+-- reading stands where a run that is given g may come to stand (rule 16.4)
+abbrev pub JudgedIn : Given → Reading → Type 0
+JudgedIn g r = Judged (g .terms .edition) (g .input) (r .used)
 
 -- what an instruction works on: the stack, top first; the outputs, in order; what was read of the input
 pub record Store : Type 0 where

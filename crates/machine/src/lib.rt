@@ -13,7 +13,7 @@ ghost use Rattle.flow.specs.Pointer.{Valid, rotated, switched};
 ghost use Rattle.text.specs.Input.{charOf, intOf, wholeLine, charNext};
 ghost use Rattle.stack.specs.Stack.{Lies};
 ghost use Rattle.machine.specs.Counts.{Countable, oneMore, counted};
-ghost use Rattle.machine.specs.Machine.{given, exec, take, takeNumber, turn, read, opNumbered, statusOf};
+ghost use Rattle.machine.specs.Machine.{given, JudgedIn, exec, take, takeNumber, turn, read, opNumbered, statusOf};
 ghost use Rattle.machine.specs.Held.{slices, Stands, Execs, StackExecs, atDepth, atOutputs, atUsed, atPointers, atWait, atSkips, grownOf, wroteOf};
 
 // The instructions; Nothing is what a slide's or a black region's exit carries.
@@ -275,6 +275,7 @@ fn take(stack: &mut [i64], at: Core, taken: Taken) -> Done
 fn char_in(terms: Terms, input: &[u8], stack: &mut [i64], at: Core) -> Done
     requires { ⌜ Lies (now stack) (at .depth) ⌝ }
     requires { ⌜ Valid (at .pointers) ⌝ }
+    requires { ⌜ JudgedIn (given terms (now input)) (at .reading) ⌝ }
     ensures { λ r. ⌜ StackExecs (read (given terms (now (input .entry))) charOf (charNext (terms .edition)) take) (now (stack .entry)) at (now (stack .exit)) r ⌝ }
 {
     if terms.abstract_mode {
@@ -314,6 +315,7 @@ pub fn exec(
 ) -> Done
     requires { ⌜ Stands (slices (now stack) (now kinds) (now values)) at ⌝ }
     requires { ⌜ Countable (at .reading .skips) ⌝ }
+    requires { ⌜ JudgedIn (given terms (now input)) (at .reading) ⌝ }
     ensures { λ r. ⌜ Execs (exec (given terms (now (input .entry))) size op) (slices (now (stack .entry)) (now (kinds .entry)) (now (values .entry))) at (slices (now (stack .exit)) (now (kinds .exit)) (now (values .exit))) r ⌝ }
 {
     let d = at.depth;

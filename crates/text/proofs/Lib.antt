@@ -14,5 +14,6 @@ pub mod Encoding
 pub mod Only
 pub mod Meaning
 pub mod OneChar
+pub mod Judging
 pub mod SameAsBefore
 pub mod Examples

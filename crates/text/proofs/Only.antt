@@ -4,7 +4,7 @@
 --     int_in, char_in    takes-only
 --     is_utf8            `decides-only` of base's proofs/Only.antt
 --     is_white, is_scalar, parse, line_end      `equation-only` there
--- No public function has a `requires` or changes a lent byte. Assumes nothing.
+-- No public function but `char_in` has a `requires`, and none changes a lent byte. Assumes nothing.
 use Prim.Native.Nat.{ℕ}
 use mathlib.Core.Path.{_≡_, sym, ap, _∙_}
 use mathlib.Core.List.{List, List-discrete}

@@ -1,11 +1,14 @@
 -- What an input instruction takes of the input (rules 10.1 to 10.4, 10.8, 16.4). Assumes nothing.
-use Prim.Native.Nat.{ℕ, _+_}
+use Prim.Native.Nat.{ℕ, zero, suc, _+_, _<_}
 use mathlib.Core.Path.{_≡_}
+use mathlib.Core.Bool.{Bool, true, false, not}
 use mathlib.Core.List.{List, [], _∷_}
 use lib.IntN.{pos}
-use lib.ListN.{length, take}
+use lib.Dec.{eqb}
+use lib.ListN.{length, getD, take}
 use Rattle.base.specs.Edition.{byEdition}
 use Rattle.base.specs.declared.edition.Edition.{Edition}
+use Rattle.base.specs.declared.edition.Edition.the-variants.{Page}
 use Rattle.text.specs.Line.{lineAt, lineEnd}
 use Rattle.text.specs.Utf8.{encodes, Utf8, Valid}
 use Rattle.text.specs.White.{trimmed}
@@ -58,3 +61,13 @@ charNext e s at cs = afterChar e (wholeLine s at cs) (at + length (encodes (take
 pub data Takes (f : List ℕ → Number) (next : Next) (s : List ℕ) (at : ℕ) (r : Taken) : Type 0 where
   reads : (cs : List ℕ) → Utf8 (lineAt s at) cs → r ≡ pushOrSkip (f cs) (next s at cs) → Takes f next s at r
   bad : (Valid (lineAt s at) → ⊥) → r ≡ BadInput → Takes f next s at r
+
+-- a place within a line: the byte before it is no newline
+unfoldable pub withinLine : List ℕ → ℕ → Bool
+withinLine s zero = false
+withinLine s (suc i) = not (eqb (getD s i 0) 10)
+
+-- Where reading may stand. A line is judged whole at its first read; so within a line, where only edition 2 comes to stand,
+-- what is left of it is UTF-8, and need not be judged again (rule 16.4)
+abbrev pub Judged : Edition → List ℕ → ℕ → Type 0
+Judged e s at = at < length s → withinLine s at ≡ true → (e ≡ Page) × Valid (lineAt s at)

@@ -8,8 +8,13 @@ use crate::utf8::is_utf8;
 use crate::white::trim;
 use base::edition::Edition;
 ghost use mathlib.Core.Path.{_≡_};
+ghost use Prim.Native.Nat.{_<_, _≤_};
+ghost use lib.ListN.{length};
+ghost use Rattle.base.specs.declared.edition.Edition.the-variants.{Page};
 ghost use Rattle.text.specs.Input.{Takes, intOf, charOf, wholeLine, afterChar, charNext};
-ghost use Rattle.text.specs.Line.{lineEnd};
+ghost use Rattle.text.specs.Input.{withinLine, Judged};
+ghost use Rattle.text.specs.Line.{lineAt, lineEnd};
+ghost use Rattle.text.specs.Utf8.{Valid};
 
 // A value to push, or why there is none, with the place where reading goes on; or a line that is not UTF-8.
 pub enum Taken {
@@ -65,8 +70,35 @@ fn after_char(edition: Edition, end: usize, next: usize) -> usize
     }
 }
 
+// Whether a place lies within a line: the byte before it is no newline.
+fn within_line(input: &[u8], at: usize) -> bool
+    requires { ⌜ at ≤ length (now input) ⌝ }
+    ensures { λ r. ⌜ r ≡ withinLine (now (input .entry)) at ⌝ }
+{
+    if at == 0 {
+        return false;
+    }
+    input[at - 1] != 10
+}
+
+// CharIn within a line: the next character. The line was judged at its first read, and is not looked at again, so that a
+// line that is read by characters costs its length and not the square of it.
+fn char_within(input: &[u8], at: usize) -> Taken
+    requires { ⌜ at < length (now input) ⌝ }
+    requires { ⌜ Valid (lineAt (now input) at) ⌝ }
+    ensures { λ r. ⌜ Takes charOf (charNext Page) (now (input .entry)) at r ⌝ }
+{
+    let Decoded::Char { cp, next } = decode(input, at) else {
+        // never reached: what is left of the line is UTF-8
+        return Taken::BadInput;
+    };
+    let value = cp as i64;
+    Taken::Push { value, next }
+}
+
 // CharIn: the first character of what is left of the line, which is the newline where there is no other (rules 10.2, 16.4).
 pub fn char_in(input: &[u8], at: usize, edition: Edition) -> Taken
+    requires { ⌜ Judged edition (now input) at ⌝ }
     ensures { λ r. ⌜ Takes charOf (charNext edition) (now (input .entry)) at r ⌝ }
 {
     if input.len() <= at {
@@ -75,11 +107,14 @@ pub fn char_in(input: &[u8], at: usize, edition: Edition) -> Taken
             why: Reason::Ended,
         };
     }
+    if within_line(input, at) {
+        return char_within(input, at);
+    }
     let end = line_end(input, at);
     // all of it is judged, in edition 2 too, where one character is taken
-    let left = &input[at..end];
-    if is_utf8(left) {
-        let Decoded::Char { cp, next: size } = decode(left, 0) else {
+    let whole = &input[at..end];
+    if is_utf8(whole) {
+        let Decoded::Char { cp, next: size } = decode(whole, 0) else {
             // never reached: a line has a character
             return Taken::Skip {
                 next: end,

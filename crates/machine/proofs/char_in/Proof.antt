@@ -17,7 +17,7 @@ returns c =
     λ kinds values h.
     let s = c .before .before .before in
     rw (c .at-wait .ensures)
-    (waits (now (s .args .stack)) kinds values (s .args .at) (record { lies = s .pre .0; holds = h; valid = s .pre .1 }) charOf (charNext (s .args .terms .edition)) take
+    (waits (now (s .args .stack)) kinds values (s .args .at) (record { lies = s .pre .0; holds = h; valid = s .pre .1 .0 }) charOf (charNext (s .args .terms .edition)) take
     (given (s .args .terms) (now (s .args .input))) (c .before .if1 .taken))
 
 char-in-requires : tie.Need-char-in-requires

@@ -50,13 +50,13 @@ long c = record { stack = c .step .kept .1 .1 .1 .1 .1 .0; kinds = c .step .kept
 loop-holds : tie.Need-loop-holds Inv-loop μ-loop
 loop-holds c =
     let s = c .before .before .before .before in
-    along-start (s .args .n) (now (s .args .rows)) (now (s .args .exits)) (what s) (held s) (s .args .from) (s .pre .1)
+    along-start (s .args .n) (now (s .args .rows)) (now (s .args .exits)) (what s) (held s) (s .args .from) (s .pre .1 .0) (s .pre .1 .1)
 
 step-requires : tie.Need-step-requires Inv-loop μ-loop
 step-requires c κs =
     let t = c .before .before .before in
     let l = t .before .before .before in
-    (begin l .pre .0, (l .loop .inv .placed, omega (arith, t .if1 .taken, t .before .struct-known2 .given .0)))
+    (begin l .pre .0, (l .loop .inv .placed, (l .loop .inv .judged, omega (arith, t .if1 .taken, t .before .struct-known2 .given .0))))
 
 enum-known-next : tie.Need-enum-known-next Inv-loop μ-loop
 enum-known-next c = search needs

@@ -6,14 +6,16 @@ use borrow.Author.Needs.{needs}
 use denote.Ref.{now}
 use Rattle.base.specs.declared.edition.Edition.{Edition}
 use Rattle.base.specs.Edition.{editionOf, unknownEdition}
+use Rattle.text.proofs.Judging.{judged-start}
 use Rattle.machine.specs.Machine.{Asks, asks, givenOf, given}
+use Rattle.machine.specs.Place as place
 use Rattle.machine.specs.Held.{Slices, slices}
 use Rattle.machine.proofs.Only.{AsLong}
 use Rattle.interpreter.specs.Table.{validOf}
 use Rattle.interpreter.specs.Outcome.{endOf}
 use Rattle.interpreter.specs.Resume.{Started}
 use Rattle.interpreter.proofs.Answering.{answer-unknown, answer-wrong, answer-right, run-refuses, run-finishes}
-use Rattle.interpreter.proofs.Settled.{settled}
+use Rattle.interpreter.proofs.Settled.{settled, reached-judged}
 use Rattle.interpreter.proofs.ValidLaws.{good-of}
 use Rattle.interpreter.proofs.running.run.Statement.{statement}
 use Rattle.interpreter.proofs.running.run.Tie as tie
@@ -110,7 +112,11 @@ returns-3 c =
     (p .before .before .edition-of .ensures) (r .ensures) in
     let e = settled n (endOf rows exits (givenOf (what s)) (held s)) l′ (held s) (r .result) long ran in (
       run-finishes n rows exits (what s) (held s) (answer-right n rows exits (what s) (held s) (named (known (p .before))) (right p)) (e .0) (e .1),
-      (good-of (editionOf (s .args .edition)) n rows exits (right p), ran),
+      (
+        good-of (editionOf (s .args .edition)) n rows exits (right p),
+        ran,
+        reached-judged n rows exits (givenOf (what s)) (held s) l′ (s .args .limit) place.start (r .result) ran (judged-start (editionOf (s .args .edition)) (now (s .args .input))),
+      ),
     )
 
 pub run-spec : {M : Type 1} → statement M

@@ -3,6 +3,7 @@ use borrow.Author.Needs.{needs}
 use lib.IntN.{pos}
 use denote.Ref.{now}
 use Rattle.stack.specs.Stack.{stackOf}
+use Rattle.text.proofs.Judging.{judged-start}
 use Rattle.machine.specs.Output.{outsOf}
 use Rattle.machine.specs.Machine.{given}
 use Rattle.machine.specs.Held.{Slices, slices}
@@ -44,9 +45,12 @@ resume-requires c κs =
     let f = cleared-all c in
     let s = start f in (
       s .pre,
-      placed-start (s .args .n) (clean f .stack) (clean f .kinds) (clean f .values) (s .pre .some)
-          (cleared (pos 0) (now (s .args .stack)) _ (first (second f) .fill-i64 .ensures)) (cleared 0 (now (s .args .kinds)) _ (second f .fill-u8 .ensures))
-          (cleared (pos 0) (now (s .args .values)) _ (f .fill-i642 .ensures)),
+      (
+        placed-start (s .args .n) (clean f .stack) (clean f .kinds) (clean f .values) (s .pre .some)
+            (cleared (pos 0) (now (s .args .stack)) _ (first (second f) .fill-i64 .ensures)) (cleared 0 (now (s .args .kinds)) _ (second f .fill-u8 .ensures))
+            (cleared (pos 0) (now (s .args .values)) _ (f .fill-i642 .ensures)),
+        judged-start (s .args .terms .edition) (now (s .args .input)),
+      ),
     )
 
 same-length : tie.Need-same-length

@@ -93,13 +93,13 @@ exec-requires : tie.Need-exec-requires
 exec-requires c κs =
     let n = number c in
     rw (c .at-pointers .ensures, n .before .before .of-number .ensures, n .before .before .before .state-of .ensures)
-    (stands-in _ _ _ (begin (cell n) .pre .1 .0 .stands) (omega arith), omega (arith, begin (cell n) .pre .1 .0 .few, begin (cell n) .pre .1 .1 .2))
+    (stands-in _ _ _ (begin (cell n) .pre .1 .0 .stands) (omega arith), (omega (arith, begin (cell n) .pre .1 .0 .few, begin (cell n) .pre .1 .1 .1 .2), begin (cell n) .pre .1 .1 .0))
 
 enum-known-next : tie.Need-enum-known-next
 enum-known-next c = search needs
 
 add-t32 : tie.Need-add-t32
-add-t32 c = omega (arith, start (kept c) .pre .1 .1 .2)
+add-t32 c = omega (arith, start (kept c) .pre .1 .1 .1 .2)
 
 enum-known-stop : tie.Need-enum-known-stop
 enum-known-stop c = search needs
@@ -120,7 +120,7 @@ returns c =
     let s = start e in
     rw (number (e .before) .before .before .before .before .target-of .ensures)
     (moved (now (s .args .rows)) exits (what s) (s .args .n) (held s) (s .args .at) (s .args .w) (left e) (c .before .before .next .given .0 .0)
-    (went e _ (c .before .before .next .given .1)) (s .pre .1 .1 .1) (s .pre .1 .0 .few))
+    (went e _ (c .before .before .next .given .1)) (s .pre .1 .1 .1 .1) (s .pre .1 .0 .few))
 
 same-length-4 : tie.Need-same-length-4
 same-length-4 c = search needs

@@ -57,9 +57,12 @@ go-through-requires c κs =
       (
         p .1 .0,
         (
-          some-exit _ (going some),
-          rw (o .open-exit .ensures) (inside-exit (p .0) _ _ (p .1 .0 .stands .valid) (p .1 .0 .inside)),
-          p .1 .1,
+          p .1 .1 .0,
+          (
+            some-exit _ (going some),
+            rw (o .open-exit .ensures) (inside-exit (p .0) _ _ (p .1 .0 .stands .valid) (p .1 .0 .inside)),
+            p .1 .1 .1,
+          ),
         ),
       ),
     )
