@@ -1,19 +1,23 @@
--- Laws of `any` and `every`, and what a table that is not refused may be relied on for. Assumes nothing.
+-- Laws of `any` and `every`, and what a table that is not refused may be relied on for.
+--     lost-passes     the number of a lost slide passes in edition 2, however many regions there are (rules 12.2, 16.5)
+--     lost-refused    in edition 1 a table is refused that has it in one of its 8n cells, a node's or not
+-- Assumes nothing.
 use mathlib.Core.Path.{_≡_, refl, sym, ap, _∙_}
 use mathlib.Core.Bool.{Bool, true, false, _&&_, _||_}
 use mathlib.Core.List.{List}
 use Prim.Native.Nat.{_≤_, ℕ, zero, suc, _+_, _<_}
 use native.Mathlib.Numerals.{add-one}
 use native.Mathlib.Omega.{arith}
-use borrow.Author.Tests.{eqb-false, ltb-false, leb-false, not-true, ne-eqb, le-ltb}
+use borrow.Author.Tests.{eqb-false, ltb-false, leb-false, not-true, ne-eqb, le-ltb, lt-leb}
 use lib.Dec.{eqb, ltb, leb}
 use lib.ListN.{length, getD}
 use Rattle.base.specs.declared.edition.Edition.{Edition}
+use Rattle.base.specs.declared.edition.Edition.the-variants.{Rust, Page}
 use Rattle.base.proofs.Tests.{neither, and-both, by-size}
 use Rattle.interpreter.specs.Table.{any, every, wrongCount, tooShort, wrongMark, wrongExit, wrongExits, wrongTable, validOf, Good}
 use Rattle.table.specs.Layout.{exitCell, exitAt, rowsRoom, exitsRoom}
 use Rattle.table.proofs.Cells.{exit-in, exit-below, each-exit-cell}
-use Rattle.table.specs.ExitNumber.{targetOf, largestIn}
+use Rattle.table.specs.ExitNumber.{targetOf, lostSlide, largestIn}
 
 both-true : (a b : Bool) → a ≡ true → b ≡ true → (a && b) ≡ true
 both-true a b p q = rw (p, q) refl
@@ -149,3 +153,14 @@ count-fits n h k = rw (ne-eqb n 0 h, le-ltb 65536 n k) refl
 
 pub long-enough : (n : ℕ) (rows exits : List ℕ) → rowsRoom n ≤ length rows → exitsRoom n ≤ length exits → tooShort n rows exits ≡ false
 long-enough n rows exits h k = rw (le-ltb (length rows) (rowsRoom n) h, le-ltb (length exits) (exitsRoom n) k) refl
+
+pub lost-passes : (n : ℕ) → 0 < n → wrongExit (largestIn Page) n lostSlide ≡ false
+lost-passes n h = lt-leb n 0 h
+
+pub lost-refused : (n : ℕ) (rows exits : List ℕ) (r s : ℕ) → r < n → s < 8 → exitAt exits r s ≡ lostSlide → wrongTable Rust n rows exits ≡ true
+lost-refused n rows exits r s h k e =
+    second-true (wrongCount n) _
+    (second-true (tooShort n rows exits) _
+    (second-true (any (wrongMark rows) n) _
+    (any-yes (wrongExits (largestIn Rust) n exits) r n h
+    (any-yes (λ i. wrongExit (largestIn Rust) n (exitAt exits r i)) s 8 k (ap (wrongExit (largestIn Rust) n) e)))))
