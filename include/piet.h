@@ -292,7 +292,7 @@ uint32_t piet_determine_runs_forever(size_t n,
  *                    with PIET_EXIT_LOST among them it is refused in PIET_EDITION_RUST
  *   limit            the most steps
  *   abstract_mode    true: an input instruction reads nothing, and the run stops after it
- *   input            the bytes that input instructions read, by lines
+ *   input            the bytes that input instructions read, by lines; CharIn in PIET_EDITION_PAGE by characters
  *   stack            the stack, of any length, 0 included; on return cell 0 is the bottom
  *   kinds, values    the outputs in order, enum piet_kind and the value; the shorter of the two is the room, which
  *                    may be 0

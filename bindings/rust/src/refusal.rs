@@ -35,7 +35,7 @@ pub enum Refusal {
     /// 9: pixel (0,0) is white, and a run can't start there.
     White,
     /// 10: the table is not valid: its count of regions is 0 or above 65,536, a slice is short, a node mark is above 1,
-    /// or an exit is none or leads to a region that the table doesn't have. A lost slide is an exit in edition 2 alone.
+    /// or an exit is none or leads to a region that the table doesn't have. The cell of a lost slide passes in edition 2 alone.
     Table,
     /// 12: row or column of a label is above 1,023, or under 22 bytes are lent for it.
     Label,

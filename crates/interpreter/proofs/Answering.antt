@@ -1,5 +1,5 @@
 -- A call's answer, by whether it is refused.
---     answer-unknown, answer-wrong, answer-right, judge    by the tests of the edition and of the table
+--     answer-unknown, answer-wrong, answer-right, test-call    by the tests of the edition and of the table
 --     run-refuses, run-finishes    what `run` answers and leaves is its outcome
 --     refuses, finishes            and the other way round: what its outcome says
 --     result-cells                 a result has as many numbers as its cells say
@@ -68,19 +68,19 @@ module _ (n : ℕ) (rows exits : List ℕ) (a : Asks) (l : Slices) where
   answer-right u v = ap₂ answered u (not-true (wrongTable edition n rows exits) v)
 
   -- what a call comes to: it is refused, or the edition is known and the table one of n regions
-  pub data Judged : Type 0 where
-    unknown : unknownEdition (a .edition) ≡ true → Judged
-    wrong : unknownEdition (a .edition) ≡ false → validOf edition n rows exits ≡ false → Judged
-    right : unknownEdition (a .edition) ≡ false → validOf edition n rows exits ≡ true → Judged
+  pub data Tested : Type 0 where
+    unknown : unknownEdition (a .edition) ≡ true → Tested
+    wrong : unknownEdition (a .edition) ≡ false → validOf edition n rows exits ≡ false → Tested
+    right : unknownEdition (a .edition) ≡ false → validOf edition n rows exits ≡ true → Tested
 
-  pub judge : Judged
-  judge = known (unknownEdition (a .edition)) refl
+  pub test-call : Tested
+  test-call = known (unknownEdition (a .edition)) refl
     where
-      tested : unknownEdition (a .edition) ≡ false → (t : Bool) → validOf edition n rows exits ≡ t → Judged
+      tested : unknownEdition (a .edition) ≡ false → (t : Bool) → validOf edition n rows exits ≡ t → Tested
       tested u true v = right u v
       tested u false v = wrong u v
 
-      known : (t : Bool) → unknownEdition (a .edition) ≡ t → Judged
+      known : (t : Bool) → unknownEdition (a .edition) ≡ t → Tested
       known true u = unknown u
       known false u = tested u (validOf edition n rows exits) refl
 

@@ -30,16 +30,16 @@ use Rattle.interpreter.specs.Forever as Always
 use Rattle.interpreter.specs.Outcome.{refused, numbered, Outcome}
 use Rattle.interpreter.specs.Resume.{Resumed}
 use Rattle.interpreter.proofs.Settled.{settled}
-use Rattle.interpreter.proofs.Answering.{Judged, unknown, wrong, right, judge, answer-unknown, answer-wrong, answer-right, refuses, finishes}
+use Rattle.interpreter.proofs.Answering.{Tested, unknown, wrong, right, test-call, answer-unknown, answer-wrong, answer-right, refuses, finishes}
 
 module _ (n : ℕ) (rows exits : List ℕ) (a : Asks) (l : Slices) where
   pub run-only : {r r′ : Ran} {l′ l″ : Slices} → Outcome n rows exits a l r l′ → Outcome n rows exits a l r′ l″ → (r ≡ r′) × (l′ ≡ l″)
-  run-only {r} {r′} {l′} {l″} p q = go (judge n rows exits a l)
+  run-only {r} {r′} {l′} {l″} p q = go (test-call n rows exits a l)
     where
       same : {x : Ran} {y : Slices} → (r ≡ x) × (l′ ≡ y) → (r′ ≡ x) × (l″ ≡ y) → (r ≡ r′) × (l′ ≡ l″)
       same u v = (u .0 ∙ sym (v .0), u .1 ∙ sym (v .1))
 
-      go : Judged n rows exits a l → (r ≡ r′) × (l′ ≡ l″)
+      go : Tested n rows exits a l → (r ≡ r′) × (l′ ≡ l″)
       go (unknown u) =
           let h = answer-unknown n rows exits a l u in
           same (refuses n rows exits a l p 14 h) (refuses n rows exits a l q 14 h)

@@ -62,7 +62,7 @@ pub data Takes (f : List ℕ → Number) (next : Next) (s : List ℕ) (at : ℕ)
   reads : (cs : List ℕ) → Utf8 (lineAt s at) cs → r ≡ pushOrSkip (f cs) (next s at cs) → Takes f next s at r
   bad : (Valid (lineAt s at) → ⊥) → r ≡ BadInput → Takes f next s at r
 
--- a place within a line: the byte before it is no newline
+-- a place within a line, or at the end of an input whose last line has no newline: the byte before it is no newline
 unfoldable pub withinLine : List ℕ → ℕ → Bool
 withinLine s zero = false
 withinLine s (suc i) = not (eqb (getD s i 0) 10)
