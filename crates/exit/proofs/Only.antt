@@ -9,6 +9,7 @@ use native.Mathlib.Omega.{arith}
 use borrow.Author.Tests.{eqb-true, eqb-false}
 use lib.Dec.{eqb}
 use lib.ListN.{length, getD}
+use Rattle.base.specs.declared.edition.Edition.{Edition}
 use Rattle.flow.specs.Pointer.{Valid}
 use Rattle.flow.proofs.Order.{valid-number}
 use Rattle.flow.specs.declared.PointerState.{PointerState}
@@ -62,7 +63,7 @@ same-end : {p : Picture} {rule : Rule} {x : Sight} {a b a′ b′ : ℕ} {s : Po
 same-end e f d = record { trail = d .trail; slides = same-codel e f (d .slides) }
 
 -- an attempt has one outcome
-pub attempt-only : {p : Picture} {r c : ℕ} {s : PointerState} {w w′ : Way} → Attempt p r c s w → Attempt p r c s w′ → w ≡ w′
+pub attempt-only : {e : Edition} {p : Picture} {r c : ℕ} {s : PointerState} {w w′ : Way} → Attempt e p r c s w → Attempt e p r c s w′ → w ≡ w′
 attempt-only (shut e) (shut f) = refl
 attempt-only (shut e) (step f) = clash (cc)
 attempt-only (shut e) (glide f d′) = clash (cc)

@@ -34,13 +34,13 @@ pub rust-unstuck : {p : Picture} {map : List ℕ} {r : ℕ} {q : PointerState} {
 rust-unstuck x (lost t) = clash (cc)
 
 module _ {p : Picture} {map : List ℕ} {r : ℕ} {q : PointerState} (h : 0 < colsOf p) (l : length map ≡ codels p) (v : Valid q) where
-  pub same-codel : {w w′ : Way} (a : Tried p map r q w) (b : Tried p map r q w′) → a .codel ≡ b .codel
+  pub same-codel : {e e′ : Edition} {w w′ : Way} (a : Tried e p map r q w) (b : Tried e′ p map r q w′) → a .codel ≡ b .codel
   same-codel a b = leaving-only h l v (a .leaves) (b .leaves)
 
-  pub same-way : {w w′ : Way} → Tried p map r q w → Tried p map r q w′ → w ≡ w′
-  same-way {w′ = w′} a b = attempt-only (a .way) (subst (λ (i : ℕ). Attempt p (i / colsOf p) (i % colsOf p) q w′) (sym (same-codel a b)) (b .way))
+  pub same-way : {e : Edition} {w w′ : Way} → Tried e p map r q w → Tried e p map r q w′ → w ≡ w′
+  same-way {e} {w′ = w′} a b = attempt-only (a .way) (subst (λ (i : ℕ). Attempt e p (i / colsOf p) (i % colsOf p) q w′) (sym (same-codel a b)) (b .way))
 
-  pub opens-only : {t i t′ i′ : ℕ} {u u′ : PointerState} → Opens p map r q t u i → Opens p map r q t′ u′ i′ → (t ≡ t′) × (u ≡ u′) × (i ≡ i′)
+  pub opens-only : {e : Edition} {t i t′ i′ : ℕ} {u u′ : PointerState} → Opens e p map r q t u i → Opens e p map r q t′ u′ i′ → (t ≡ t′) × (u ≡ u′) × (i ≡ i′)
   opens-only (beside {a = a} {b = b} x) (beside {a = a′} {b = b′} y) =
       let w : Step a b ≡ Step a′ b′ = same-way x y in
       let ea : a ≡ a′ = cc in
@@ -54,31 +54,35 @@ module _ {p : Picture} {map : List ℕ} {r : ℕ} {q : PointerState} (h : 0 < co
       let ed : d ≡ d′ = cc in
       (ap₂ (regionAt p map) ec ed, cc, refl)
 
-  pub open-unstuck : {target i : ℕ} {u : PointerState} {e : Edition} → Opens p map r q target u i → Stuck p map r q e → ⊥
+  pub open-unstuck : {target i : ℕ} {u : PointerState} {e : Edition} → Opens e p map r q target u i → Stuck p map r q e → ⊥
   open-unstuck (beside x) (lost y) = let w = same-way x y in clash (cc)
   open-unstuck (across x) (lost y) = let w = same-way x y in clash (cc)
 
-  pub closed-shut : {e : Edition} → Tried p map r q Closed → Shut e p map r q
-  closed-shut t = record { never = λ target u i o. unopened o; unstuck = λ s. unlost s }
+  pub closed-shut : {e : Edition} → Tried e p map r q Closed → Shut e p map r q
+  closed-shut {e} t = record { never = λ target u i o. unopened o; unstuck = λ s. unlost t s }
     where
-      unopened : {target i : ℕ} {u : PointerState} → Opens p map r q target u i → ⊥
+      unopened : {target i : ℕ} {u : PointerState} → Opens e p map r q target u i → ⊥
       unopened (beside x) = let w = same-way t x in clash (cc)
       unopened (across x) = let w = same-way t x in clash (cc)
 
-      unlost : {e : Edition} → Stuck p map r q e → ⊥
-      unlost (lost x) = let w = same-way t x in clash (cc)
+      unlost : {e : Edition} → Tried e p map r q Closed → Stuck p map r q e → ⊥
+      unlost t (lost x) = let w = same-way t x in clash (cc)
 
-  pub astray-shut : {a b : ℕ} → Tried p map r q (Astray a b) → Shut Rust p map r q
-  astray-shut t = record { never = λ target u i o. open-unstuck o (lost t); unstuck = rust-unstuck refl }
+  pub astray-shut : {a b : ℕ} → Tried Rust p map r q (Astray a b) → Shut Rust p map r q
+  astray-shut t = record { never = λ target u i o. unopened o; unstuck = rust-unstuck refl }
+    where
+      unopened : {target i : ℕ} {u : PointerState} → Opens Rust p map r q target u i → ⊥
+      unopened (beside x) = let w = same-way t x in clash (cc)
+      unopened (across x) = let w = same-way t x in clash (cc)
 
 -- where a step and a slide come to
-stepped : {p : Picture} {r c a b : ℕ} {q : PointerState} → Inside p r c → Valid q → Attempt p r c q (Step a b) → Landing p a b q
-stepped {p} {r} {c} {q = q} i v (step e) =
+stepped : {e : Edition} {p : Picture} {r c a b : ℕ} {q : PointerState} → Inside p r c → Valid q → Attempt e p r c q (Step a b) → Landing p a b q
+stepped {p = p} {r = r} {c = c} {q = q} i v (step e) =
     let k = coloured-colour p r c (q .dp) e in
     record { place = coloured-inside p r c (q .dp) i e; valid = v; not-black = k .0; not-white = k .1 }
 
-slid : {p : Picture} {r c x y a b : ℕ} {q u : PointerState} → Inside p r c → Valid q → Attempt p r c q (Glide x y a b u) → Landing p a b u
-slid {p} {r} {c} {q = q} i v (glide e d) = landing d (white-inside p r c (q .dp) i e) v
+slid : {e : Edition} {p : Picture} {r c x y a b : ℕ} {q u : PointerState} → Inside p r c → Valid q → Attempt e p r c q (Glide x y a b u) → Landing p a b u
+slid {p = p} {r = r} {c = c} {q = q} i v (glide e d) = landing d (white-inside p r c (q .dp) i e) v
 
 -- an open attempt leads to a coloured codel of the target
 pub record Reached (p : Picture) (map : List ℕ) (target : ℕ) (u : PointerState) : Type 0 where
@@ -87,7 +91,7 @@ pub record Reached (p : Picture) (map : List ℕ) (target : ℕ) (u : PointerSta
   pub own : regionAt p map row col ≡ target
   pub lands : Landing p row col u
 
-pub reached : {p : Picture} {map : List ℕ} {r target i : ℕ} {q u : PointerState} → Sound p → length map ≡ codels p → Valid q → Opens p map r q target u i
+pub reached : {e : Edition} {p : Picture} {map : List ℕ} {r target i : ℕ} {q u : PointerState} → Sound p → length map ≡ codels p → Valid q → Opens e p map r q target u i
     → Reached p map target u
 reached S l v (beside {a = a} {b = b} t) =
     record { row = a; col = b; own = refl; lands = stepped (inside-of S (t .codel) (omega (arith, t .leaves .codel))) v (t .way) }
@@ -95,6 +99,6 @@ reached S l v (across {c = c} {d = d} t) =
     record { row = c; col = d; own = refl; lands = slid (inside-of S (t .codel) (omega (arith, t .leaves .codel))) v (t .way) }
 
 -- its instruction is one of rule 1.5's
-pub opens-known : {p : Picture} {map : List ℕ} {r target i : ℕ} {q u : PointerState} → Opens p map r q target u i → i ≤ 17
-opens-known {p} (beside {a = a} {b = b} t) = decode-small (codelColour p (t .codel)) (colourAt p a b)
+pub opens-known : {e : Edition} {p : Picture} {map : List ℕ} {r target i : ℕ} {q u : PointerState} → Opens e p map r q target u i → i ≤ 17
+opens-known {p = p} (beside {a = a} {b = b} t) = decode-small (codelColour p (t .codel)) (colourAt p a b)
 opens-known (across t) = lit≤ tt

@@ -1,4 +1,5 @@
--- Every slide from a codel of the grid ends, and where it lands is a coloured codel of the grid. Assumes nothing.
+-- Every slide of edition 1 from a codel of the grid ends, and where a slide of either edition lands is a coloured codel of the
+-- grid. Assumes nothing.
 use mathlib.Core.Path.{_≡_, refl, sym, ap, _∙_}
 use mathlib.Core.Bool.{Bool, true, false}
 use mathlib.Core.List.{[], _∷_}
@@ -54,9 +55,9 @@ ends (suc k) p past r c s n q i v l =
     by-rule go true g = (station r c s ∷ past, Lost, lost g)
     by-rule go false g = see go g (omega (arith, turns-left past r c s g, q)) (lookOf p r c (s .dp)) refl
 
--- every slide from a codel of the grid has an end
-pub slide-total : (p : Picture) (r c : ℕ) (s : PointerState) → Inside p r c → Valid s → (o : Slid) × Ends p eighthTurn r c s o
-slide-total p r c s i v =
+-- a slide of edition 1 ends
+pub rust-slide-total : (p : Picture) (r c : ℕ) (s : PointerState) → Inside p r c → Valid s → (o : Slid) × Ends p eighthTurn r c s o
+rust-slide-total p r c s i v =
     let (t, o, d) = ends (suc (measure p r c s 0)) p [] r c s 0 (sym (no-turns (station r c s))) i v (omega arith) in
     (o, record { trail = t; slides = d })
 

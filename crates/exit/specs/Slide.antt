@@ -1,9 +1,10 @@
--- What is ahead of a codel, and the slide over white (rules 4.3, 5.2 to 5.4). Assumes nothing.
+-- What is ahead of a codel, and the slide over white (rules 4.3, 5.2 to 5.4, 16.8). Assumes nothing.
 use mathlib.Core.Path.{_≡_}
 use mathlib.Core.Bool.{true, false, cond}
 use mathlib.Core.List.{[], _∷_}
-use Prim.Native.Nat.{ℕ}
+use Prim.Native.Nat.{ℕ, _-_}
 use lib.Dec.{eqb}
+use lib.ListN.{length}
 use Rattle.colour.specs.Palette.{black, white}
 use Rattle.flow.specs.Pointer.{turnedOnce}
 use Rattle.flow.specs.Neighbour.{aheadOf}
@@ -50,3 +51,8 @@ pub data Slide (p : Picture) (rule : Rule) : Trail → ℕ → ℕ → PointerSt
 pub record Ends (p : Picture) (rule : Rule) (r c : ℕ) (s : PointerState) (o : Slid) : Type 0 where
   pub trail : Trail
   pub slides : Slide p rule [] r c s trail o
+
+-- how often a slide has looked ahead: once from each station of its trail, but not from the one at which it is lost
+unfoldable pub looksOf : Slid → Trail → ℕ
+looksOf (Landed r c s) t = length t
+looksOf Lost t = length t - 1

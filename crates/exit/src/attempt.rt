@@ -2,6 +2,9 @@
 ghost use Rattle.flow.specs.Pointer.{Valid};
 ghost use Rattle.picture.specs.Picture.{pictureOf, Frames, Inside};
 ghost use Rattle.exit.specs.Attempt.{Attempt};
+ghost use Rattle.exit.specs.Slide.{Ends};
+ghost use Rattle.exit.specs.Trail.{lostBy};
+use base::edition::Edition;
 use crate::slide::Sight;
 use crate::slide::Slid;
 use flow::PointerState;
@@ -28,16 +31,41 @@ pub enum Way {
     },
 }
 
-// From the codel to leave by one codel along dp (rule 4.3), and from a white one on by its slide (rule 5.1).
-pub fn attempt_from(colours: &[u8], s: Shape, row: usize, col: usize, from: PointerState) -> Way
+// The slide from a white codel, lost by the rule of the edition.
+fn slide(
+    colours: &[u8],
+    s: Shape,
+    edition: Edition,
+    row: usize,
+    col: usize,
+    from: PointerState,
+) -> Slid
     requires { ⌜ Frames (now colours) s × Inside (pictureOf (now colours) s) row col × Valid from ⌝ }
-    ensures { λ r. ⌜ Attempt (pictureOf (now (colours .entry)) s) row col from r ⌝ }
+    ensures { λ r. ⌜ Ends (pictureOf (now (colours .entry)) s) (lostBy edition) row col from r ⌝ }
+{
+    match edition {
+        Edition::Rust => crate::slide::rust_slide(colours, s, row, col, from),
+        Edition::Page => crate::page_slide::page_slide(colours, s, row, col, from),
+    }
+}
+
+// From the codel to leave by one codel along dp (rule 4.3), and from a white one on by its slide (rule 5.1).
+pub fn attempt_from(
+    colours: &[u8],
+    s: Shape,
+    edition: Edition,
+    row: usize,
+    col: usize,
+    from: PointerState,
+) -> Way
+    requires { ⌜ Frames (now colours) s × Inside (pictureOf (now colours) s) row col × Valid from ⌝ }
+    ensures { λ r. ⌜ Attempt edition (pictureOf (now (colours .entry)) s) row col from r ⌝ }
 {
     let dp = from.dp;
     match crate::slide::look(colours, s, row, col, dp) {
         Sight::Shut => Way::Closed,
         Sight::Coloured { row: r, col: c } => Way::Step { row: r, col: c },
-        Sight::White { row: r, col: c } => match crate::slide::slide(colours, s, r, c, from) {
+        Sight::White { row: r, col: c } => match slide(colours, s, edition, r, c, from) {
             Slid::Landed {
                 row: a,
                 col: b,

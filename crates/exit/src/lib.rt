@@ -2,4 +2,5 @@
 // codel, and the slide over white.
 pub mod attempt;
 pub mod leave;
+pub mod page_slide;
 pub mod slide;

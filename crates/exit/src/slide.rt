@@ -1,4 +1,4 @@
-// What a codel has ahead, and the slide over white (`trace_white`).
+// What a codel has ahead, and the slide over white in edition 1 (`trace_white`).
 ghost use mathlib.Core.Path.{_≡_};
 ghost use Rattle.flow.specs.Pointer.{Valid};
 ghost use Rattle.picture.specs.Picture.{pictureOf, Frames, Inside};
@@ -50,10 +50,10 @@ pub fn look(colours: &[u8], s: Shape, row: usize, col: usize, dp: u8) -> Sight
     Sight::Coloured { row: r, col: c }
 }
 
-// The slide from a white codel: straight moves and turns, left from inside with the landing codel. A move leaves the
+// The slide from a white codel, in edition 1: straight moves and turns, left from inside with the landing codel. A move leaves the
 // count of turns as it is, since they are counted over the whole slide; that is also what ends it, as the Rust's
 // `retries`.
-pub fn slide(colours: &[u8], s: Shape, row: usize, col: usize, from: PointerState) -> Slid
+pub fn rust_slide(colours: &[u8], s: Shape, row: usize, col: usize, from: PointerState) -> Slid
     requires { ⌜ Frames (now colours) s × Inside (pictureOf (now colours) s) row col × Valid from ⌝ }
     ensures { λ r. ⌜ Ends (pictureOf (now (colours .entry)) s) eighthTurn row col from r ⌝ }
 {

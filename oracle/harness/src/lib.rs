@@ -15,3 +15,4 @@ pub mod picture;
 pub mod question;
 pub mod random;
 pub mod skips;
+pub mod ways;

@@ -6,9 +6,9 @@ use crate::picture::Picture;
 /// SplitMix64.
 pub struct Random(u64);
 
-const RED: u8 = 6;
-const BLACK: u8 = 18;
-const WHITE: u8 = 19;
+pub const RED: u8 = 6;
+pub const BLACK: u8 = 18;
+pub const WHITE: u8 = 19;
 
 /// Lines that inputs are put together from; the last has to end an input.
 const LINES: [&[u8]; 14] = [
@@ -107,7 +107,7 @@ impl Random {
         Picture { height, width, codel, colours }
     }
 
-    fn codel(&mut self) -> u32 {
+    pub fn codel(&mut self) -> u32 {
         self.pick(&[1, 1, 1, 2, 3])
     }
 

@@ -17,6 +17,8 @@ const NUMBER: u8 = 2;
 pub enum Parting {
     /// a slide without a way out
     LostSlide,
+    /// a slide that lands after eight turns or more
+    LongSlide,
     /// Div or Mod by 0
     ByZero,
     /// Mod by a negative number
@@ -31,6 +33,7 @@ impl Display for Parting {
     fn fmt(&self, f: &mut Formatter) -> std::fmt::Result {
         f.write_str(match self {
             Parting::LostSlide => "a lost slide",
+            Parting::LongSlide => "a long slide",
             Parting::ByZero => "Div or Mod by 0",
             Parting::Sign => "Mod by a negative number",
             Parting::Depth => "a bad depth",

@@ -1,10 +1,11 @@
 //! A picture as codels: its blocks, and the ways out of one.
 use super::op;
+use std::collections::HashSet;
 
 const BLACK: u8 = 18;
 const WHITE: u8 = 19;
 
-/// The turn at which a slide is lost.
+/// The turn at which a slide of the first edition is lost.
 const LAST_TURN: u32 = 8;
 
 /// Instructions by hue steps forward and steps darker.
@@ -18,7 +19,7 @@ const COMMANDS: [[u8; 3]; 6] = [
 ];
 
 /// By rows first, so that the order of codels is that of the rows. It may lie outside of the picture.
-#[derive(Clone, Copy, Debug, PartialEq, Eq, PartialOrd, Ord)]
+#[derive(Clone, Copy, Debug, PartialEq, Eq, PartialOrd, Ord, Hash)]
 pub struct Codel {
     pub row: i64,
     pub column: i64,
@@ -37,12 +38,27 @@ pub enum Way {
     Shut,
     /// a block of colour
     Beside(Codel),
-    /// white, and behind it a block of colour with these pointers, or a slide that is lost
-    Across { white: Codel, landing: Option<(Codel, Pointers)> },
+    /// white, and behind it where the slide lands, or a slide that is lost
+    Across { white: Codel, landing: Option<Landing> },
+}
+
+/// The codel of colour that a slide comes to, with these pointers and after so many turns.
+#[derive(Clone, Copy, Debug, PartialEq, Eq)]
+pub struct Landing {
+    pub at: Codel,
+    pub by: Pointers,
+    pub turns: u32,
+}
+
+impl Landing {
+    /// Whether the first edition loses the slide.
+    pub fn is_long(&self) -> bool {
+        self.turns >= LAST_TURN
+    }
 }
 
 impl Codel {
-    fn next(self, dp: u32) -> Codel {
+    pub fn next(self, dp: u32) -> Codel {
         let Codel { row, column } = self;
         match dp {
             0 => Codel { row, column: column + 1 },
@@ -154,8 +170,15 @@ impl Grid {
 
     /// The number of a codel's block: how many blocks begin before it.
     pub fn number(&self, of: Codel) -> usize {
-        let first = self.block(of)[0];
-        self.codels().filter(|&c| c < first && self.block(c)[0] == c).count()
+        let (first, mut seen) = (self.block(of)[0], HashSet::new());
+        let mut begins = |at: Codel| {
+            let new = !seen.contains(&at);
+            if new {
+                seen.extend(self.block(at));
+            }
+            new
+        };
+        self.codels().take_while(|&c| c < first).filter(|&c| begins(c)).count()
     }
 
     /// One attempt to leave a block: from its furthest codel toward dp, of several from the one furthest to cc's side.
@@ -169,10 +192,11 @@ impl Grid {
         }
     }
 
-    /// Where a slide from this white codel lands; none where it is lost.
-    fn slide(&self, mut at: Codel, mut by: Pointers) -> Option<(Codel, Pointers)> {
-        let mut turns = 0;
-        while turns < LAST_TURN {
+    /// Where a slide from this white codel lands; none where it is lost: it comes, by a move or a turn, to a codel with a dp
+    /// that it had there before, the first codel with its dp among them.
+    fn slide(&self, mut at: Codel, mut by: Pointers) -> Option<Landing> {
+        let (mut had, mut turns) = (HashSet::new(), 0);
+        while had.insert((at, by.dp)) {
             let ahead = at.next(by.dp);
             match self.colour(ahead) {
                 None | Some(BLACK) => {
@@ -180,7 +204,7 @@ impl Grid {
                     turns += 1;
                 }
                 Some(WHITE) => at = ahead,
-                Some(_) => return Some((ahead, by)),
+                Some(_) => return Some(Landing { at: ahead, by, turns }),
             }
         }
         None

@@ -13,4 +13,4 @@ mod tests;
 pub use commands::{Parting, BAD_INPUT, OUTPUT_FULL, STACK_FULL};
 pub use grid::{Grid, Pointers};
 pub use run::{run_grid, run_table, End, Terms, COMPLETED, MAX_STEPS, NEEDS_INPUT};
-pub use table::{build, Table, LOST};
+pub use table::{build, build_short, Table, LOST};

@@ -34,7 +34,8 @@ pub struct End {
     pub skipped: [u64; 4],
     /// it ended at a lost slide
     pub lost: bool,
-    /// the first thing that the first edition does otherwise, and how many steps were taken before it
+    /// the first thing that the first edition does otherwise, and how many steps were taken before it; a long slide only
+    /// where the run is over codels, as exits do not tell it from others
     pub parting: Option<(u64, Parting)>,
 }
 
@@ -56,7 +57,7 @@ impl End {
 enum Next<P> {
     Nowhere,
     Lost,
-    Step { to: P, by: Pointers, command: u8, size: u32 },
+    Step { to: P, by: Pointers, command: u8, size: u32, long: bool },
 }
 
 /// Over the table of n regions in these cells; None where it is none (refusal 10).
@@ -72,7 +73,7 @@ pub fn run_table(n: usize, rows: &[u32], exits: &[u32], terms: &Terms) -> Option
             Some(exit) => {
                 let (rest, to) = ((exit - 1) / 65_536, (exit - 1) as usize % 65_536);
                 let (by, command) = (Pointers::numbered(rest % 8), (rest / 8) as u8);
-                Next::Step { to, by, command, size: rows[5 * region + 1] }
+                Next::Step { to, by, command, size: rows[5 * region + 1], long: false }
             }
         }
     };
@@ -101,11 +102,13 @@ pub fn run_grid(grid: &Grid, terms: &Terms) -> Option<End> {
             match grid.attempt(&block, by) {
                 Way::Shut => (),
                 Way::Across { landing: None, .. } => return Next::Lost,
-                Way::Across { landing: Some((to, by)), .. } => {
-                    return Next::Step { to, by, command: op::NONE, size };
+                Way::Across { landing: Some(l), .. } => {
+                    let (to, by, long) = (l.at, l.by, l.is_long());
+                    return Next::Step { to, by, command: op::NONE, size, long };
                 }
                 Way::Beside(to) => {
-                    return Next::Step { to, by, command: grid.command(*at, to), size };
+                    let command = grid.command(*at, to);
+                    return Next::Step { to, by, command, size, long: false };
                 }
             }
         }
@@ -129,22 +132,23 @@ fn run<P>(
         if machine.awaits {
             break NEEDS_INPUT;
         }
-        let (to, after) = match next(&place, machine.pointers) {
+        let (to, long, after) = match next(&place, machine.pointers) {
             Next::Nowhere => break COMPLETED,
             Next::Lost => {
                 lost = true;
                 parting = parting.or(Some((steps, Parting::LostSlide)));
                 break COMPLETED;
             }
-            Next::Step { to, by, command, size } => {
-                (to, machine.stepped(by, (command, size), terms))
+            Next::Step { to, by, command, size, long } => {
+                (to, long, machine.stepped(by, (command, size), terms))
             }
         };
         match after {
             Err(status) => break status,
             Ok(after) => (place, machine) = (to, after),
         }
-        parting = parting.or(machine.parting.map(|what| (steps, what)));
+        let what = if long { Some(Parting::LongSlide) } else { machine.parting };
+        parting = parting.or(what.map(|what| (steps, what)));
         steps += 1;
     };
     let Machine { pointers, stack, outputs, used, skipped, .. } = machine;

@@ -1,5 +1,5 @@
 //! The whole table of a picture.
-use super::grid::{Codel, Grid, Pointers, Way};
+use super::grid::{Codel, Grid, Landing, Pointers, Way};
 
 /// The exit of an attempt whose slide is lost, one above the largest of the others.
 pub const LOST: u32 = 9_437_185;
@@ -17,14 +17,24 @@ pub struct Table {
 /// Regions while their table is made.
 struct Regions<'a> {
     grid: &'a Grid,
+    /// whether a long slide counts as lost
+    short: bool,
     map: Vec<u32>,
     codels: Vec<Vec<Codel>>,
 }
 
 /// None where the picture begins with white.
 pub fn build(grid: &Grid) -> Option<Table> {
-    let regions = Regions::of(grid);
-    let found = regions.found();
+    table(Regions::of(grid, false))
+}
+
+/// The same with long slides lost, as they are in the first edition: its table, but that it has no exits for lost slides.
+pub fn build_short(grid: &Grid) -> Option<Table> {
+    table(Regions::of(grid, true))
+}
+
+fn table(regions: Regions) -> Option<Table> {
+    let (grid, found) = (regions.grid, regions.found());
     let white = |region: usize| grid.is_white(regions.codels[region][0]);
     if white(0) {
         return None;
@@ -45,7 +55,7 @@ pub fn build(grid: &Grid) -> Option<Table> {
 impl<'a> Regions<'a> {
     /// Codels that lie side by side and are alike are joined, so that each leads to the first of its region; the first
     /// ones are numbered as they come.
-    fn of(grid: &'a Grid) -> Self {
+    fn of(grid: &'a Grid, short: bool) -> Self {
         let mut leads: Vec<usize> = grid.codels().map(|c| grid.index(c)).collect();
         for at in grid.codels() {
             for beside in grid.alike(at) {
@@ -53,7 +63,7 @@ impl<'a> Regions<'a> {
                 leads[ends[0].max(ends[1])] = ends[0].min(ends[1]);
             }
         }
-        let mut regions = Regions { grid, map: vec![], codels: vec![] };
+        let mut regions = Regions { grid, short, map: vec![], codels: vec![] };
         for (index, codel) in grid.codels().enumerate() {
             let first = end_of(&leads, index);
             let number = if first == index { regions.add() } else { regions.map[first] };
@@ -73,7 +83,12 @@ impl<'a> Regions<'a> {
     }
 
     fn way(&self, region: usize, state: u32) -> Way {
-        self.grid.attempt(&self.codels[region], Pointers::numbered(state))
+        match self.grid.attempt(&self.codels[region], Pointers::numbered(state)) {
+            Way::Across { white, landing: Some(l) } if self.short && l.is_long() => {
+                Way::Across { white, landing: None }
+            }
+            way => way,
+        }
     }
 
     /// Which regions are found from region 0, by the eight attempts of each, of white ones too.
@@ -95,7 +110,7 @@ impl<'a> Regions<'a> {
             Way::Shut => vec![],
             Way::Beside(codel) => vec![self.region(codel)],
             Way::Across { white, landing } => {
-                let codels = [Some(white), landing.map(|(codel, _)| codel)];
+                let codels = [Some(white), landing.map(|l| l.at)];
                 codels.into_iter().flatten().map(|c| self.region(c)).collect()
             }
         }
@@ -109,8 +124,8 @@ impl<'a> Regions<'a> {
                 1 + self.region(to) as u32 + 65_536 * state + 524_288 * command as u32
             }
             Way::Across { landing: None, .. } => LOST,
-            Way::Across { landing: Some((to, by)), .. } => {
-                1 + self.region(to) as u32 + 65_536 * by.number()
+            Way::Across { landing: Some(Landing { at, by, .. }), .. } => {
+                1 + self.region(at) as u32 + 65_536 * by.number()
             }
         })
     }

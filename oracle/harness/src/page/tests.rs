@@ -1,14 +1,20 @@
 //! The examples of the second edition, and its cases one by one.
+use super::grid::{Codel, Landing, Way};
 use super::*;
+use crate::editions::{self, Left};
+use crate::machine::Room;
 use crate::paint::{drawn, ops, row};
+use crate::picture::Built;
+use crate::question::Question;
+use crate::random::Random;
 use piet_core::instruction::Instruction::{self, *};
+use std::collections::HashSet;
 
 const MIN: i64 = i64::MIN;
 const MAX: i64 = i64::MAX;
 
 fn grid(picture: &crate::picture::Picture) -> Grid {
-    let [height, width, codel] = [picture.height, picture.width, picture.codel].map(|n| n as usize);
-    Grid::new((height, width, codel), &picture.colours)
+    editions::grid(picture)
 }
 
 fn table(lines: &[&str]) -> Table {
@@ -24,14 +30,24 @@ fn run_picture(picture: &crate::picture::Picture, terms: &Terms) -> End {
     let grid = grid(picture);
     let table = build(&grid).expect("an entry that is not white");
     let (rows, exits) = (table.rows.as_flattened(), table.exits.as_flattened());
-    let end = run_table(table.rows.len(), rows, exits, terms);
-    assert_eq!(end, run_grid(&grid, terms), "with and without a table");
-    end.expect("a table that was built")
+    let end = run_table(table.rows.len(), rows, exits, terms).expect("a table that was built");
+    let walked = run_grid(&grid, terms).expect("an entry that is not white");
+    assert_eq!(walked, End { parting: walked.parting, ..end }, "with and without a table");
+    walked
 }
 
 /// The first eight numbers.
 fn ended(lines: &[&str], limit: u64) -> [u64; 8] {
     *run_picture(&drawn(1, lines), &terms(limit, b"")).numbers().first_chunk().expect("twelve")
+}
+
+/// The table of the first edition, and the first eight numbers of its run, by the Rust.
+fn by_rust(lines: &[&str], limit: u64) -> (Built, Vec<u64>) {
+    let (room, input) = (Room { stack: 16, outputs: 8 }, vec![]);
+    let question = Question { picture: drawn(1, lines), limit, is_abstract: false, room, input };
+    let (built, ran) = question.asked().expect("an entry that is not white");
+    let numbers = Left::by_rust(&built, &ran).numbers[..8].to_vec();
+    (built, numbers)
 }
 
 fn executed(program: &[Instruction], input: &[u8]) -> End {

@@ -4,7 +4,7 @@ use denote.Ref.{now}
 use borrow.Author.Needs.{needs}
 use Rattle.picture.specs.Picture.{Picture, pictureOf}
 use Rattle.exit.specs.declared.slide.Sight.the-variants.{White}
-use Rattle.exit.specs.Trail.{eighthTurn}
+use Rattle.exit.specs.Trail.{lostBy}
 use Rattle.exit.specs.Slide.{lookOf, Ends}
 use Rattle.exit.specs.Attempt.{shut, step, glide, lost}
 use Rattle.exit.proofs.SlideLaws.{white-inside}
@@ -53,12 +53,12 @@ returns-2 c = step (sym (c .before .before .before .look .ensures) ∙ c .before
 returns-3 : tie.Need-returns-3
 returns-3 c =
     let w = c .before .before .before .before .before in
-    glide (white w) (subst (Ends (pic (start w)) eighthTurn _ _ (start w .args .from)) (c .before .a .given .1) (c .before .before .before .slide .ensures))
+    glide (white w) (subst (Ends (pic (start w)) (lostBy (start w .args .edition)) _ _ (start w .args .from)) (c .before .a .given .1) (c .before .before .before .slide .ensures))
 
 returns-4 : tie.Need-returns-4
 returns-4 c =
     let w = c .before .before .before .before in
-    lost (white w) (subst (Ends (pic (start w)) eighthTurn _ _ (start w .args .from)) (c .enum-told2 .given .1) (c .before .before .slide .ensures))
+    lost (white w) (subst (Ends (pic (start w)) (lostBy (start w .args .edition)) _ _ (start w .args .from)) (c .enum-told2 .given .1) (c .before .before .slide .ensures))
 
 pub attempt-from-spec : {M : Type 1} → statement M
 attempt-from-spec =

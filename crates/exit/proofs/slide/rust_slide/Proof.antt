@@ -1,12 +1,12 @@
--- `exit::slide::slide` meets its contract. The invariant: however the slide goes on, so the whole slide ends (`Sliding`).
+-- `exit::slide::rust_slide` meets its contract. The invariant: however the slide goes on, so the whole slide ends (`Sliding`).
 -- The measure: the turns left, each worth more than any room ahead, and the room ahead. Assumes nothing.
 use mathlib.Core.Path.{sym, _∙_}
 use native.Mathlib.Omega.{arith}
 use borrow.Author.Needs.{needs}
 use Rattle.picture.specs.Picture.{pictureOf}
 use Rattle.exit.proofs.Sliding.{Sliding, measure, move-less, begins, loses, turns, turns-less, moves, lands}
-use Rattle.exit.proofs.slide.slide.Statement.{statement}
-use Rattle.exit.proofs.slide.slide.Tie as tie
+use Rattle.exit.proofs.slide.rust_slide.Statement.{statement}
+use Rattle.exit.proofs.slide.rust_slide.Tie as tie
 
 abbrev Inv-slide : tie.InvT-slide
 Inv-slide colours s row col at-row₀ at-col₀ state₀ turns₀ at-row at-col state turns =
@@ -64,8 +64,8 @@ returns-2 c =
     lands (c .before .before .before .before .before .slide .inv) (c .before .before .before .before .if1 .left)
     (sym (c .before .before .before .look .ensures) ∙ c .before .r2 .given .1)
 
-pub slide-spec : {M : Type 1} → statement M
-slide-spec =
+pub rust-slide-spec : {M : Type 1} → statement M
+rust-slide-spec =
     tie.close
     (tie.spec
     Inv-slide
