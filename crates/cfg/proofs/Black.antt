@@ -56,34 +56,34 @@ bright-at {p} {map} a b i d = record {
 }
 
 -- what a way adds is seen white or coloured, since black is shut (rule 4.3)
-bright : {p : Picture} {map : List ℕ} {r c q : ℕ} {s : PointerState} {w : Way} → Inside p r c → Valid s → Attempt p r c s w → Adds p map w q → Bright p map q
-bright {p} {r = r} {c = c} {s = s} i v (step {r′ = a} {c′ = b} e) nodes.beside = bright-at a b (coloured-inside p r c (s .dp) i e) (coloured-colour p r c (s .dp) e .0)
-bright {p} {r = r} {c = c} {s = s} i v (lost {r′ = a} {c′ = b} e d) astray = bright-at a b (white-inside p r c (s .dp) i e) (seen-white (look-sighted p r c (s .dp) e))
-bright {p} {r = r} {c = c} {s = s} i v (glide {r′ = a} {c′ = b} e d) over = bright-at a b (white-inside p r c (s .dp) i e) (seen-white (look-sighted p r c (s .dp) e))
-bright {p} {r = r} {c = c} {s = s} i v (glide {a = a} {b = b} e d) nodes.landing =
+bright : {e : Edition} {p : Picture} {map : List ℕ} {r c q : ℕ} {s : PointerState} {w : Way} → Inside p r c → Valid s → Attempt e p r c s w → Adds p map w q → Bright p map q
+bright {p = p} {r = r} {c = c} {s = s} i v (step {r′ = a} {c′ = b} e) nodes.beside = bright-at a b (coloured-inside p r c (s .dp) i e) (coloured-colour p r c (s .dp) e .0)
+bright {p = p} {r = r} {c = c} {s = s} i v (lost {r′ = a} {c′ = b} e d) astray = bright-at a b (white-inside p r c (s .dp) i e) (seen-white (look-sighted p r c (s .dp) e))
+bright {p = p} {r = r} {c = c} {s = s} i v (glide {r′ = a} {c′ = b} e d) over = bright-at a b (white-inside p r c (s .dp) i e) (seen-white (look-sighted p r c (s .dp) e))
+bright {p = p} {r = r} {c = c} {s = s} i v (glide {a = a} {b = b} e d) nodes.landing =
     let l = landing d (white-inside p r c (s .dp) i e) v in
     bright-at a b (l .place) (l .not-black)
 
-module _ {p : Picture} {map : List ℕ} {n : ℕ} (S : Sound p) (M : IsMap (gridOf p) map n) (long : length map ≡ codels p) where
+module _ {e : Edition} {p : Picture} {map : List ℕ} {n : ℕ} (S : Sound p) (M : IsMap (gridOf p) map n) (long : length map ≡ codels p) where
   -- every found region but region 0 was added by a way
-  black-found : {r : ℕ} → Found p map r → (j : ℕ) → j < codels p → getD map j 0 ≡ r → codelColour p j ≡ black → r ≡ 0
+  black-found : {r : ℕ} → Found e p map r → (j : ℕ) → j < codels p → getD map j 0 ≡ r → codelColour p j ≡ black → r ≡ 0
   black-found entry j h own dark = refl
   black-found (next f v t a) j h own dark =
       let x = bright (inside-of S (t .codel) (omega (arith, t .leaves .codel, long))) v (t .way) a in
       absurd (x .not-black (joined-colour (M .apart (x .codel) j (x .inside) h (x .own ∙ sym own)) ∙ dark))
 
-  pub black-node : {r : ℕ} → Node p map r → (j : ℕ) → j < codels p → getD map j 0 ≡ r → codelColour p j ≡ black → r ≡ 0
+  pub black-node : {r : ℕ} → Node e p map r → (j : ℕ) → j < codels p → getD map j 0 ≡ r → codelColour p j ≡ black → r ≡ 0
   black-node N = black-found (N .found)
 
   -- black is in neither cycle of colours; a slide that lands gives no instruction of itself
-  pub black-silent : {r target i : ℕ} {q u : PointerState} → Opens p map r q target u i → (j : ℕ) → j < codels p → getD map j 0 ≡ r → codelColour p j ≡ black → i ≡ none
+  pub black-silent : {r target i : ℕ} {q u : PointerState} → Opens e p map r q target u i → (j : ℕ) → j < codels p → getD map j 0 ≡ r → codelColour p j ≡ black → i ≡ none
   unfolding decodeOf
   black-silent (beside t) j h own dark =
       let inside : t .codel < codels p = omega (arith, t .leaves .codel, long) in
       rw (joined-colour (M .apart (t .codel) j inside h (t .leaves .own ∙ sym own)) ∙ dark)
   black-silent (across t) j h own dark = refl
 
-  pub black-exit : {e : Edition} {r x : ℕ} {q : PointerState} → Valid q → Exit e p map r q x → (j : ℕ) → j < codels p → getD map j 0 ≡ r → codelColour p j ≡ black → (instructionOf x ≡ none) ⊎ Stuck p map r q e
+  pub black-exit : {r x : ℕ} {q : PointerState} → Valid q → Exit e p map r q x → (j : ℕ) → j < codels p → getD map j 0 ≡ r → codelColour p j ≡ black → (instructionOf x ≡ none) ⊎ Stuck p map r q e
   black-exit v (no-node a) j h own dark = inl refl
   black-exit v (shut a s) j h own dark = inl refl
   black-exit v (stuck a s) j h own dark = inr s

@@ -32,8 +32,8 @@ leaves-first map rows cols q h own alone =
     record { codel = h; own = own; unbeaten = λ j l e. rw (alone j l e) (beats-self rows cols q 0) }
 
 -- and is a node where the codel is not white
-first-node : (p : Picture) (map : List ℕ) → length map ≡ codels p → Alone map → (codelColour p 0 ≡ white → ⊥) → Node p map 0
-first-node p map l alone coloured = record {
+first-node : (e : Edition) (p : Picture) (map : List ℕ) → length map ≡ codels p → Alone map → (codelColour p 0 ≡ white → ⊥) → Node e p map 0
+first-node e p map l alone coloured = record {
   found = entry;
   coloured = λ w. coloured (subst (λ (j : ℕ). codelColour p j ≡ white) (alone (w .codel) (omega (arith, w .inside)) (w .own)) (w .colour));
 }
@@ -49,10 +49,10 @@ alone-of-two (suc (suc j)) h e = absurd (omega arith)
 
 pub back-numbers : (e : Edition) → Exit e red-white (0 ∷ 1 ∷ []) 0 (ofNumber 0) 262145 × Exit e red-white (0 ∷ 1 ∷ []) 0 (ofNumber 1) 327681
 back-numbers e =
-    let node = first-node red-white (0 ∷ 1 ∷ []) refl alone-of-two not-white in
+    let node = first-node e red-white (0 ∷ 1 ∷ []) refl alone-of-two not-white in
     let leaves : (q : PointerState) → LeavesBy (0 ∷ 1 ∷ []) 1 2 q 0 0 = λ q. leaves-first (0 ∷ 1 ∷ []) 1 2 q (lit< tt) refl alone-of-two in (
-      leads node (across (record { codel = 0; leaves = leaves (ofNumber 0); way = back-to-itself .0 })),
-      leads node (across (record { codel = 0; leaves = leaves (ofNumber 1); way = back-to-itself .1 })),
+      leads node (across (record { codel = 0; leaves = leaves (ofNumber 0); way = back-to-itself e .0 })),
+      leads node (across (record { codel = 0; leaves = leaves (ofNumber 1); way = back-to-itself e .1 })),
     )
 
 -- red, white, red: straight on
@@ -64,10 +64,10 @@ alone-of-three (suc (suc (suc j))) h e = absurd (omega arith)
 
 pub straight-numbers : (e : Edition) → Exit e red-white-red (0 ∷ 1 ∷ 2 ∷ []) 0 (ofNumber 0) 3 × Exit e red-white-red (0 ∷ 1 ∷ 2 ∷ []) 0 (ofNumber 1) 65539
 straight-numbers e =
-    let node = first-node red-white-red (0 ∷ 1 ∷ 2 ∷ []) refl alone-of-three not-white in
+    let node = first-node e red-white-red (0 ∷ 1 ∷ 2 ∷ []) refl alone-of-three not-white in
     let leaves : (q : PointerState) → LeavesBy (0 ∷ 1 ∷ 2 ∷ []) 1 3 q 0 0 = λ q. leaves-first (0 ∷ 1 ∷ 2 ∷ []) 1 3 q (lit< tt) refl alone-of-three in (
-      leads node (across (record { codel = 0; leaves = leaves (ofNumber 0); way = straight-on .0 })),
-      leads node (across (record { codel = 0; leaves = leaves (ofNumber 1); way = straight-on .1 })),
+      leads node (across (record { codel = 0; leaves = leaves (ofNumber 0); way = straight-on e .0 })),
+      leads node (across (record { codel = 0; leaves = leaves (ofNumber 1); way = straight-on e .1 })),
     )
 
 -- red, white, white over black, white, white: both slides are lost
@@ -86,10 +86,13 @@ Around e state x = Exit e round (0 ∷ 1 ∷ 1 ∷ 2 ∷ 1 ∷ 1 ∷ []) 0 (ofNu
 pub lost-numbers : (Around Rust 0 0 × Around Rust 1 0) × (Around Page 0 9437185 × Around Page 1 9437185)
 lost-numbers =
     let map : List ℕ = 0 ∷ 1 ∷ 1 ∷ 2 ∷ 1 ∷ 1 ∷ [] in
-    let node = first-node round map refl alone-of-six not-white in
     let leaves : (q : PointerState) → LeavesBy map 2 3 q 0 0 = λ q. leaves-first map 2 3 q (lit< tt) refl alone-of-six in
-    let t : Tried round map 0 (ofNumber 0) (Astray 0 1) = record { codel = 0; leaves = leaves (ofNumber 0); way = none-open .0 } in
-    let u : Tried round map 0 (ofNumber 1) (Astray 0 1) = record { codel = 0; leaves = leaves (ofNumber 1); way = none-open .1 } in (
-      (shut node (astray-shut (lit< tt) refl (valid-number 0 (lit< tt)) t), shut node (astray-shut (lit< tt) refl (valid-number 1 (lit< tt)) u)),
-      (stuck node (lost t), stuck node (lost u)),
+    let node : (e : Edition) → Node e round map 0 = λ e. first-node e round map refl alone-of-six not-white in
+    let t : (e : Edition) → Tried e round map 0 (ofNumber 0) (Astray 0 1) = λ e. record { codel = 0; leaves = leaves (ofNumber 0); way = none-open e .0 } in
+    let u : (e : Edition) → Tried e round map 0 (ofNumber 1) (Astray 0 1) = λ e. record { codel = 0; leaves = leaves (ofNumber 1); way = none-open e .1 } in (
+      (
+        shut (node Rust) (astray-shut (lit< tt) refl (valid-number 0 (lit< tt)) (t Rust)),
+        shut (node Rust) (astray-shut (lit< tt) refl (valid-number 1 (lit< tt)) (u Rust)),
+      ),
+      (stuck (node Page) (lost (t Page)), stuck (node Page) (lost (u Page))),
     )

@@ -29,11 +29,11 @@ use Rattle.cfg.specs.Table.{Exit, no-node, shut, leads, stuck, Builds}
 use Rattle.cfg.proofs.NodeLaws.{joined-colour, opens-found}
 
 -- what a target, a state and an instruction of an exit are
-pub record Leads (p : Picture) (map : List ℕ) (n target : ℕ) (u : PointerState) (i : ℕ) : Type 0 where
+pub record Leads (e : Edition) (p : Picture) (map : List ℕ) (n target : ℕ) (u : PointerState) (i : ℕ) : Type 0 where
   pub low : target < n
   pub valid : Valid u
   pub known : i ≤ 17
-  pub node : Node p map target
+  pub node : Node e p map target
 
 -- an exit of a table of n regions
 abbrev pub Fits : Edition → ℕ → ℕ → Type 0
@@ -44,27 +44,27 @@ module _ {p : Picture} {map : List ℕ} {n : ℕ} (S : Sound p) (M : IsMap (grid
   colour-at a b i = rw (row-of p a b i, col-of p a b i)
 
   -- a found region with a coloured codel is a node
-  coloured-node : (a b : ℕ) → Inside p a b → (colourAt p a b ≡ white → ⊥) → Found p map (regionAt p map a b) → Node p map (regionAt p map a b)
+  coloured-node : {e : Edition} (a b : ℕ) → Inside p a b → (colourAt p a b ≡ white → ⊥) → Found e p map (regionAt p map a b) → Node e p map (regionAt p map a b)
   coloured-node a b i d f = record {
     found = f;
     coloured = λ w. d (sym (colour-at a b i) ∙ sym (joined-colour (M .apart (w .codel) (indexOf p a b) (w .inside) (index-in p a b i) (w .own))) ∙ w .colour);
   }
 
-  pub opens-leads : {r target i : ℕ} {q u : PointerState} → Found p map r → Valid q → Opens p map r q target u i → Leads p map n target u i
-  opens-leads f v o =
+  pub opens-leads : {e : Edition} {r target i : ℕ} {q u : PointerState} → Found e p map r → Valid q → Opens e p map r q target u i → Leads e p map n target u i
+  opens-leads {e} f v o =
       let x = reached S long v o in
       let l = x .lands in
       record {
         low = subst (λ (t : ℕ). t < n) (x .own) (M .below (indexOf p (x .row) (x .col)) (index-in p (x .row) (x .col) (l .place)));
         valid = l .valid;
         known = opens-known o;
-        node = subst (Node p map) (x .own) (coloured-node (x .row) (x .col) (l .place) (l .not-white) (subst (Found p map) (sym (x .own)) (opens-found f v o)));
+        node = subst (Node e p map) (x .own) (coloured-node (x .row) (x .col) (l .place) (l .not-white) (subst (Found e p map) (sym (x .own)) (opens-found f v o)));
       }
 
   few : n ≤ 65536
   few = omega (arith, map-few (gridOf p) map n M, S .few)
 
-  pub open-fits : {r target i : ℕ} {q u : PointerState} → Found p map r → Valid q → Opens p map r q target u i
+  pub open-fits : {e : Edition} {r target i : ℕ} {q u : PointerState} → Found e p map r → Valid q → Opens e p map r q target u i
       → (exitNumber target (stateNumber u) i ≤ largestExit) × (targetOf (exitNumber target (stateNumber u) i) < n)
   open-fits {target = target} {i = i} {u = u} f v o =
       let l = opens-leads f v o in

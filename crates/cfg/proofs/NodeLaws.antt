@@ -27,21 +27,21 @@ use Rattle.cfg.specs.Nodes as nodes
 use Rattle.cfg.specs.Table.{Exit, shut, leads, stuck}
 use Rattle.cfg.specs.Search.{lostExit, wayNumber, Number}
 
-pub opens-found : {p : Picture} {map : List ℕ} {r target i : ℕ} {q u : PointerState} → Found p map r → Valid q → Opens p map r q target u i → Found p map target
+pub opens-found : {e : Edition} {p : Picture} {map : List ℕ} {r target i : ℕ} {q u : PointerState} → Found e p map r → Valid q → Opens e p map r q target u i → Found e p map target
 opens-found f v (beside t) = next f v t nodes.beside
 opens-found f v (across t) = next f v t nodes.landing
 
-module _ {p : Picture} {map : List ℕ} {r s : ℕ} (h : 0 < colsOf p) (l : length map ≡ codels p) (k : s < 8) (N : Node p map r) where
+module _ {p : Picture} {map : List ℕ} {r s : ℕ} (h : 0 < colsOf p) (l : length map ≡ codels p) (k : s < 8) where
   -- of a lost slide, by the edition: it is passed over, or is where a run ends
-  lost-number : (e : Edition) {a b : ℕ} → Tried p map r (ofNumber s) (Astray a b) → Exit e p map r (ofNumber s) (lostExit e)
-  lost-number Rust t = shut N (astray-shut h l (valid-number s k) t)
-  lost-number Page t = stuck N (lost t)
+  lost-number : (e : Edition) {a b : ℕ} → Node e p map r → Tried e p map r (ofNumber s) (Astray a b) → Exit e p map r (ofNumber s) (lostExit e)
+  lost-number Rust N t = shut N (astray-shut h l (valid-number s k) t)
+  lost-number Page N t = stuck N (lost t)
 
-  module _ {e : Edition} where
-    way-exit : (w : Way) (t : Tried p map r (ofNumber s) w) → Exit e p map r (ofNumber s) (wayNumber e p map (codelColour p (t .codel)) s w)
+  module _ {e : Edition} (N : Node e p map r) where
+    way-exit : (w : Way) (t : Tried e p map r (ofNumber s) w) → Exit e p map r (ofNumber s) (wayNumber e p map (codelColour p (t .codel)) s w)
     unfolding wayNumber
     way-exit Closed t = shut N (closed-shut h l (valid-number s k) t)
-    way-exit (Astray a b) t = lost-number e t
+    way-exit (Astray a b) t = lost-number e N t
     way-exit (Step a b) t =
         let same : stateNumber (ofNumber s) ≡ s = omega arith in
         subst (λ (z : ℕ). Exit e p map r (ofNumber s) (exitNumber (regionAt p map a b) z (decodeOf (codelColour p (t .codel)) (colourAt p a b)))) same (leads N (beside t))

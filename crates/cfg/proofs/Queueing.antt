@@ -12,6 +12,7 @@ use native.Mathlib.Decide.{decLt}
 use native.Mathlib.Omega.{arith}
 use lib.ListN.{length, getD, set, length-set}
 use lib.Seq.{getD-set-same, getD-set-other}
+use Rattle.base.specs.declared.edition.Edition.{Edition}
 use Rattle.cfg.specs.Nodes.{Adds, beside, astray, over, landing, Found}
 use Rattle.cfg.specs.Search.{Room, Visit, pushed, kept, Queued, InGrid, Grounds, Occurs, Waiting, Queue, Onward}
 use Rattle.table.specs.Layout.{markOf, rowCell, rowsRoom, markField}
@@ -36,7 +37,7 @@ pub length-after : {q : ℕ} {rows work : List ℕ} {tail : ℕ} {rows′ work�
 length-after {q} {rows} {work} {tail} (pushed e) = (length-set rows (rowCell q markField) 1, length-set work tail q)
 length-after (kept e) = (refl, refl)
 
-pub onward-none : {p : Picture} {map rows work : List ℕ} {tail : ℕ} → Queue p map rows work tail → Onward p map rows work tail rows work tail
+pub onward-none : {e : Edition} {p : Picture} {map rows work : List ℕ} {tail : ℕ} → Queue e p map rows work tail → Onward e p map rows work tail rows work tail
 onward-none {tail = tail} q = record {
   queue = q;
   on = le-refl tail;
@@ -47,8 +48,8 @@ onward-none {tail = tail} q = record {
   work-length = refl;
 }
 
-pub onward-more : {p : Picture} {map rows work : List ℕ} {tail : ℕ} {rows′ work′ : List ℕ} {tail′ : ℕ} {rows″ work″ : List ℕ} {tail″ : ℕ}
-    → Onward p map rows work tail rows′ work′ tail′ → Onward p map rows′ work′ tail′ rows″ work″ tail″ → Onward p map rows work tail rows″ work″ tail″
+pub onward-more : {e : Edition} {p : Picture} {map rows work : List ℕ} {tail : ℕ} {rows′ work′ : List ℕ} {tail′ : ℕ} {rows″ work″ : List ℕ} {tail″ : ℕ}
+    → Onward e p map rows work tail rows′ work′ tail′ → Onward e p map rows′ work′ tail′ rows″ work″ tail″ → Onward e p map rows work tail rows″ work″ tail″
 onward-more a b = record {
   queue = b .queue;
   on = omega (arith, a .on, b .on);
@@ -59,7 +60,7 @@ onward-more a b = record {
   work-length = b .work-length ∙ a .work-length;
 }
 
-pub queue-none : (p : Picture) (map rows work : List ℕ) → length work ≤ 65536 → rowsRoom (length work) ≤ length rows → ((r : ℕ) → markOf rows r ≡ 0) → Queue p map rows work 0
+pub queue-none : {e : Edition} (p : Picture) (map rows work : List ℕ) → length work ≤ 65536 → rowsRoom (length work) ≤ length rows → ((r : ℕ) → markOf rows r ≡ 0) → Queue e p map rows work 0
 queue-none p map rows work few long none = record {
   room = record { few = few; long = long; free = omega (arith, bare-most (length work) rows) };
   waits = λ q h. absurd (omega arith);
@@ -68,12 +69,12 @@ queue-none p map rows work few long none = record {
   seen = λ r e. absurd (omega (arith, none r));
 }
 
-module _ {p : Picture} {map : List ℕ} {q : ℕ} {rows work : List ℕ} {tail : ℕ} (Q : Queue p map rows work tail) (found : Found p map q) (occurs : Occurs map q) (low : q < length work) where
+module _ {e : Edition} {p : Picture} {map : List ℕ} {q : ℕ} {rows work : List ℕ} {tail : ℕ} (Q : Queue e p map rows work tail) (found : Found e p map q) (occurs : Occurs map q) (low : q < length work) where
   cell-in : rowCell q markField < length rows
   cell-in = omega (arith, Q .room .long)
 
   -- a region without a mark is pushed
-  module _ (e : markOf rows q ≡ 0) where
+  module _ (unmarked : markOf rows q ≡ 0) where
     abbrev rows₁ : List ℕ
     rows₁ = set rows (rowCell q markField) 1
 
@@ -81,7 +82,7 @@ module _ {p : Picture} {map : List ℕ} {q : ℕ} {rows work : List ℕ} {tail :
     work₁ = set work tail q
 
     tail-in : tail < length work
-    tail-in = omega (arith, Q .room .free, bare-some (length work) rows q low cell-in e)
+    tail-in = omega (arith, Q .room .free, bare-some (length work) rows q low cell-in unmarked)
 
     now-marked : markOf rows₁ q ≡ 1
     now-marked = getD-set-same rows (rowCell q markField) 1 0 cell-in
@@ -101,7 +102,7 @@ module _ {p : Picture} {map : List ℕ} {q : ℕ} {rows work : List ℕ} {tail :
     at-last : (j : ℕ) → j < tail + 1 → (j < tail → ⊥) → getD work₁ j 0 ≡ q
     at-last j h i = let a : j ≡ tail = omega arith in rw a last
 
-    waits : (j : ℕ) → j < tail + 1 → Waiting p map rows₁ (getD work₁ j 0)
+    waits : (j : ℕ) → j < tail + 1 → Waiting e p map rows₁ (getD work₁ j 0)
     waits j h =
         by-cases (decLt j tail)
         (λ i.
@@ -116,11 +117,11 @@ module _ {p : Picture} {map : List ℕ} {q : ℕ} {rows work : List ℕ} {tail :
         (λ k z.
         let w = Q .waits a (omega arith) in
         let y : getD work a 0 ≡ q = sym (old a (omega arith)) ∙ z ∙ at-last b i k in
-        omega (arith, w .marked, e, ap (markOf rows) y))
+        omega (arith, w .marked, unmarked, ap (markOf rows) y))
 
-    queue₁ : Queue p map rows₁ work₁ (tail + 1)
+    queue₁ : Queue e p map rows₁ work₁ (tail + 1)
     queue₁ = record {
-      room = room-after low (Q .room) (pushed e);
+      room = room-after low (Q .room) (pushed unmarked);
       waits = waits;
       distinct = distinct;
       bit = λ r. ⊎-elim (λ a. omega (arith, a .1)) (λ a. omega (arith, a .1, Q .bit r)) (stored rows (rowCell q markField) 1 (rowCell r markField) cell-in);
@@ -131,7 +132,7 @@ module _ {p : Picture} {map : List ℕ} {q : ℕ} {rows work : List ℕ} {tail :
           (back r m);
     }
 
-    onward₁ : Onward p map rows work tail rows₁ work₁ (tail + 1)
+    onward₁ : Onward e p map rows work tail rows₁ work₁ (tail + 1)
     onward₁ = record {
       queue = queue₁;
       on = omega arith;
@@ -142,7 +143,7 @@ module _ {p : Picture} {map : List ℕ} {q : ℕ} {rows work : List ℕ} {tail :
       work-length = length-set work tail q;
     }
 
-  pub visited : {rows′ work′ : List ℕ} {tail′ : ℕ} → Visit q rows work tail rows′ work′ tail′ → Onward p map rows work tail rows′ work′ tail′ × (markOf rows′ q ≡ 1)
+  pub visited : {rows′ work′ : List ℕ} {tail′ : ℕ} → Visit q rows work tail rows′ work′ tail′ → Onward e p map rows work tail rows′ work′ tail′ × (markOf rows′ q ≡ 1)
   visited (pushed e) = (onward₁ e, now-marked e)
   visited (kept e) = (onward-none Q, omega (arith, Q .bit q, e))
 
@@ -164,9 +165,9 @@ module _ {p : Picture} {map : List ℕ} (G : Grounds p map) (a b : ℕ) (i : Ins
   pub region-occurs : Occurs map (getD map (a * colsOf p + b) 0)
   region-occurs = record { codel = a * colsOf p + b; inside = at-in; own = refl }
 
-module _ {p : Picture} {map : List ℕ} (G : Grounds p map) {rows work : List ℕ} {tail : ℕ} (Q : Queue p map rows work tail) (long : length work ≡ codels p) where
-  pub queued : {w : Way} {rows′ work′ : List ℕ} {tail′ : ℕ} → InGrid p w → ((q : ℕ) → Adds p map w q → Found p map q) → Queued map (colsOf p) rows work tail w rows′ work′ tail′
-      → Onward p map rows work tail rows′ work′ tail′ × ((q : ℕ) → Adds p map w q → markOf rows′ q ≡ 1)
+module _ {e : Edition} {p : Picture} {map : List ℕ} (G : Grounds p map) {rows work : List ℕ} {tail : ℕ} (Q : Queue e p map rows work tail) (long : length work ≡ codels p) where
+  pub queued : {w : Way} {rows′ work′ : List ℕ} {tail′ : ℕ} → InGrid p w → ((q : ℕ) → Adds p map w q → Found e p map q) → Queued map (colsOf p) rows work tail w rows′ work′ tail′
+      → Onward e p map rows work tail rows′ work′ tail′ × ((q : ℕ) → Adds p map w q → markOf rows′ q ≡ 1)
   queued i f search.closed = (onward-none Q, λ q d. absurd (not-closed d refl))
   queued i f (search.step {a = a} {b = b} {rows′ = rows₁} v) =
       let x = visited Q (f _ beside) (region-occurs G a b i) (omega (arith, region-low G a b i)) v in

@@ -28,7 +28,7 @@ use Rattle.cfg.proofs.Trying.{settled-on}
 
 -- rows₀ and exits₀ are the slices before the first region is taken
 pub record Searching (e : Edition) (p : Picture) (map rows₀ exits₀ work₀ : List ℕ) (head : ℕ) (rows exits work : List ℕ) (tail : ℕ) : Type 0 where
-  pub queue : Queue p map rows work tail
+  pub queue : Queue e p map rows work tail
   pub inside : head ≤ tail
   pub start : markOf rows 0 ≡ 1
   pub settled : (q : ℕ) → q < head → (s : ℕ) → s < 8 → Settled e p map rows (getD work q 0) s (exitAt exits (getD work q 0) s)
@@ -39,14 +39,14 @@ pub record Searching (e : Edition) (p : Picture) (map rows₀ exits₀ work₀ :
   pub work-length : length work ≡ length work₀
 
 -- what `visit` asks for region 0
-pub queue-first : {p : Picture} {map rows exits work : List ℕ} → Ready p map rows exits work → Queue p map rows work 0
-queue-first {p} {map} {rows} {exits} {work} R =
+pub queue-first : {e : Edition} {p : Picture} {map rows exits work : List ℕ} → Ready p map rows exits work → Queue e p map rows work 0
+queue-first {p = p} {map = map} {rows = rows} {work = work} R =
     queue-none p map rows work (omega (arith, R .work-long, R .grounds .sound .few)) (omega (arith, R .work-long, R .rows-long)) (R .unmarked)
 
 pub first-low : {p : Picture} {map rows exits work : List ℕ} → Ready p map rows exits work → 0 < length work
 first-low R = omega (arith, R .work-long, first-in (R .grounds .sound))
 
-first-visited : {p : Picture} {map rows exits work rows₀ work₀ : List ℕ} {tail : ℕ} → Ready p map rows exits work → Visit 0 rows work 0 rows₀ work₀ tail → Onward p map rows work 0 rows₀ work₀ tail × (markOf rows₀ 0 ≡ 1)
+first-visited : {e : Edition} {p : Picture} {map rows exits work rows₀ work₀ : List ℕ} {tail : ℕ} → Ready p map rows exits work → Visit 0 rows work 0 rows₀ work₀ tail → Onward e p map rows work 0 rows₀ work₀ tail × (markOf rows₀ 0 ≡ 1)
 first-visited R v =
     visited (queue-first R) entry (record { codel = 0; inside = omega (arith, R .grounds .long, first-in (R .grounds .sound)); own = R .first }) (first-low R) v
 
@@ -73,7 +73,7 @@ module _ {e : Edition} {p : Picture} {map rowsᵉ exitsᵉ workᵉ rows₀ work�
       omega (arith, R .grounds .low (o .codel) (omega (arith, o .inside, R .grounds .long)), o .own)
 
   pub work-long : length work ≡ codels p
-  work-long = S .work-length ∙ first-visited R v .0 .work-length ∙ R .work-long
+  work-long = S .work-length ∙ first-visited {e = e} R v .0 .work-length ∙ R .work-long
 
   module _ (more : head < tail) where
     -- the cells of the region at the head are as they were
@@ -85,7 +85,7 @@ module _ {e : Edition} {p : Picture} {map rowsᵉ exitsᵉ workᵉ rows₀ work�
         let o = S .queue .waits head more .occurs in
         rw (held s h, ← o .own) (R .leaving (o .codel) (o .inside) s h)
 
-    pub search-taken : Taken p map exits work (getD work head 0)
+    pub search-taken : Taken e p map exits work (getD work head 0)
     search-taken = record {
       grounds = R .grounds;
       found = S .queue .waits head more .found;
@@ -132,31 +132,31 @@ module _ {e : Edition} {p : Picture} {map rowsᵉ exitsᵉ workᵉ rows₀ work�
         rw e at (S .settled q (omega arith) s h)
 
     -- every found region is marked
-    complete : {r : ℕ} → Found p map r → markOf rows r ≡ 1
+    complete : {r : ℕ} → Found e p map r → markOf rows r ≡ 1
     complete entry = S .start
     complete (next {r = r} {q = q} {s = s} f v t a) =
         let d = done r (complete f) (stateNumber s) (number-small s v) in
-        let e = same-way (cols-pos (R .grounds .sound)) (R .grounds .long) v t (subst (λ (z : PointerState). Tried p map r z (d .is .way)) (of-number s v) (d .is .tried)) in
-        d .marked q (subst (λ (x : _). Adds p map x q) e a)
+        let same = same-way (cols-pos (R .grounds .sound)) (R .grounds .long) v t (subst (λ (z : PointerState). Tried e p map r z (d .is .way)) (of-number s v) (d .is .tried)) in
+        d .marked q (subst (λ (x : _). Adds p map x q) same a)
 
     -- every marked region is found
-    sound : (r : ℕ) → markOf rows r ≡ 1 → Found p map r
+    sound : (r : ℕ) → markOf rows r ≡ 1 → Found e p map r
     sound r m =
-        let (q, i, e) = S .queue .seen r m in
-        subst (Found p map) e (S .queue .waits q i .found)
+        let (q, i, own) = S .queue .seen r m in
+        subst (Found e p map) own (S .queue .waits q i .found)
 
-    marks : (r : ℕ) → Marks (Found p map r) (markOf rows r)
+    marks : (r : ℕ) → Marks (Found e p map r) (markOf rows r)
     marks r =
         by-cases (ℕ-discrete (markOf rows r) 1)
-        (λ e. subst (Marks (Found p map r)) (sym e) (is (sound r e)))
+        (λ m. subst (Marks (Found e p map r)) (sym m) (is (sound r m)))
         (λ d.
         let z : markOf rows r ≡ 0 = omega (arith, S .queue .bit r) in
-        subst (Marks (Found p map r)) (sym z) (none (λ f. d (complete f))))
+        subst (Marks (Found e p map r)) (sym z) (none (λ f. d (complete f))))
 
     pub search-end : Searched e p map rowsᵉ exitsᵉ rows exits
     search-end = record {
       marks = marks;
       settled = λ r f s h. done r (complete f) s h .is;
-      same = λ r s h d. S .same r s h (λ q i e. d (subst (Found p map) e (S .queue .waits q (omega (arith, S .inside)) .found)));
-      cells = λ r f h d. S .cells r f h d ∙ first-visited R v .0 .cells r f h d;
+      same = λ r s h d. S .same r s h (λ q i own. d (subst (Found e p map) own (S .queue .waits q (omega (arith, S .inside)) .found)));
+      cells = λ r f h d. S .cells r f h d ∙ first-visited {e = e} R v .0 .cells r f h d;
     }

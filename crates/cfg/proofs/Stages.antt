@@ -86,7 +86,7 @@ module _ {p : Picture} {map : List ℕ} {n : ℕ} {rows : List ℕ} (B : Begun p
   }
 
   -- a found region has a codel, and so a number below n
-  found-occurs : {r : ℕ} → Found p map r → Occurs map r
+  found-occurs : {e : Edition} {r : ℕ} → Found e p map r → Occurs map r
   found-occurs entry = record {
     codel = 0;
     inside = omega (arith, B .map-long, first-in (B .sound));
@@ -101,7 +101,7 @@ module _ {p : Picture} {map : List ℕ} {n : ℕ} {rows : List ℕ} (B : Begun p
       added w q i (over {a = a} {b = b}) = region-occurs grounds a b (i .0)
       added w q i (landing {c = c} {d = d}) = region-occurs grounds c d (i .1)
 
-  found-low : {r : ℕ} → Found p map r → r < n
+  found-low : {e : Edition} {r : ℕ} → Found e p map r → r < n
   found-low f =
       let o = found-occurs f in
       omega (arith, B .regions .below (o .codel) (omega (arith, o .inside, B .map-long)), o .own)
@@ -120,11 +120,11 @@ module _ {p : Picture} {map : List ℕ} {n : ℕ} {rows : List ℕ} (B : Begun p
         c ∙ t .colour ∙ joined-colour (B .regions .apart (t .first) i (t .is-first .inside) l (t .is-first .has ∙ sym e))
 
     -- a region that is kept is a node, and one that is not kept is none
-    marked-is : {r x : ℕ} → Marks (Found p map r) x → x ≢ 0 → Found p map r × (x ≡ 1)
+    marked-is : {r x : ℕ} → Marks (Found e p map r) x → x ≢ 0 → Found e p map r × (x ≡ 1)
     marked-is (is f) d = (f, refl)
     marked-is (none f) d = absurd (d refl)
 
-    unmarked-not : {r x : ℕ} → Marks (Found p map r) x → x ≡ 0 → Found p map r → ⊥
+    unmarked-not : {r x : ℕ} → Marks (Found e p map r) x → x ≡ 0 → Found e p map r → ⊥
     unmarked-not (is f) e g = omega arith
     unmarked-not (none f) e g = f g
 
@@ -139,13 +139,13 @@ module _ {p : Picture} {map : List ℕ} {n : ℕ} {rows : List ℕ} (B : Begun p
         first true h k = absurd (true≢false (sym k))
         first false h k = (eqb-false _ _ h, second (eqb (markOf rows′ r) 0) refl k)
 
-    is-node : (r : ℕ) → r < n → isNode rows′ r ≡ true → Node p map r × (markOf rows′ r ≡ 1)
+    is-node : (r : ℕ) → r < n → isNode rows′ r ≡ true → Node e p map r × (markOf rows′ r ≡ 1)
     is-node r h e =
         let t = tests r e in
         let f = marked-is (S .marks r) (t .1) in
         (record { found = f .0; coloured = λ w. t .0 (colour-cell r h (w .codel) (w .inside) (w .own) ∙ w .colour) }, f .1)
 
-    never-node : (r : ℕ) → r < n → isNode rows′ r ≡ false → Node p map r → ⊥
+    never-node : (r : ℕ) → r < n → isNode rows′ r ≡ false → Node e p map r → ⊥
     never-node r h e N = first (eqb (fieldAt rows′ r colourField) 19) refl e
       where
         second : (b : Bool) → eqb (markOf rows′ r) 0 ≡ b → not b ≡ false → ⊥
@@ -163,9 +163,9 @@ module _ {p : Picture} {map : List ℕ} {n : ℕ} {rows : List ℕ} (B : Begun p
             })
         first false m k = second (eqb (markOf rows′ r) 0) refl k
 
-    node-mark : (r : ℕ) → r < n → Kept r rows′ exits′ rows″ exits″ → Marks (Node p map r) (markOf rows″ r)
-    node-mark r h (stays e m x) = let d = is-node r h e in subst (Marks (Node p map r)) (sym (m ∙ d .1)) (is (d .0))
-    node-mark r h (goes e m x) = subst (Marks (Node p map r)) (sym m) (none (never-node r h e))
+    node-mark : (r : ℕ) → r < n → Kept r rows′ exits′ rows″ exits″ → Marks (Node e p map r) (markOf rows″ r)
+    node-mark r h (stays t m x) = let d = is-node r h t in subst (Marks (Node e p map r)) (sym (m ∙ d .1)) (is (d .0))
+    node-mark r h (goes t m x) = subst (Marks (Node e p map r)) (sym m) (none (never-node r h t))
 
     exit-at : (r s : ℕ) → r < n → s < 8 → Kept r rows′ exits′ rows″ exits″ → Exit e p map r (ofNumber s) (exitAt exits″ r s)
     exit-at r s h i (stays t m x) =
@@ -185,7 +185,7 @@ module _ {p : Picture} {map : List ℕ} {n : ℕ} {rows : List ℕ} (B : Begun p
           column = field r columnField (omega arith) (λ e. omega arith) ∙ t .column;
         }
 
-    not-found : {r : ℕ} → n ≤ r → Found p map r → ⊥
+    not-found : {r : ℕ} → n ≤ r → Found e p map r → ⊥
     not-found h f = omega (arith, found-low f)
 
     -- past the regions

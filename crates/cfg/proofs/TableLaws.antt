@@ -1,4 +1,4 @@
--- A picture has one table in an edition; its map and its rows are the same in every edition. Assumes nothing.
+-- A picture has one table in an edition; its map and its rows but for the marks are the same in every edition. Assumes nothing.
 use mathlib.Core.Path.{_≡_, refl, sym, ap, subst, _∙_}
 use mathlib.Core.Logic.{by-cases}
 use mathlib.Core.List.{List}
@@ -11,10 +11,11 @@ use Rattle.flow.specs.Pointer.{Valid, stateNumber}
 use Rattle.flow.proofs.Order.{valid-number}
 use Rattle.flow.specs.declared.PointerState.{PointerState}
 use Rattle.cfg.specs.Table.{Marks, is, none, Exit, no-node, shut, leads, stuck, Builds}
-use Rattle.table.specs.Layout.{exitAt, rowAt}
+use Rattle.table.specs.Layout.{RowNumbers, markOf, exitAt, rowAt, blank}
 use Rattle.table.proofs.Cells.{same-rows, same-exits}
 use Rattle.picture.specs.Picture.{Picture, colsOf, codels}
 use Rattle.region.specs.Grid.{gridOf}
+use Rattle.region.specs.Rows.{Row}
 use Rattle.region.proofs.MapLaws.{settled}
 use Rattle.region.proofs.RowLaws.{row-only}
 use Rattle.exit.proofs.Opening.{opens-only, open-unstuck}
@@ -61,16 +62,35 @@ pub over-map : {e : Edition} {p : Picture} {map map′ rows exits work : List �
 over-map {e} {p} {map} {map′} {rows} {exits} {work} {n} {n′} same b =
     subst (λ (x : ℕ). Builds e p map rows exits work x) (sym (same .1)) (subst (λ (x : List ℕ). Builds e p x rows exits work n′) (sym (same .0)) b)
 
--- and then the rows are the same in every edition
+-- a row with another mark
+abbrev pub withMark : ℕ → RowNumbers → RowNumbers
+withMark mark x = record { colour = x .colour; size = x .size; row = x .row; column = x .column; mark = mark }
+
+-- and then the rows differ in their marks at most
 module _ {e e′ : Edition} {p : Picture} {map rows exits work rows′ exits′ work′ : List ℕ} {n : ℕ}
     (a : Builds e p map rows exits work n) (b : Builds e′ p map rows′ exits′ work′ n) where
+  pub row-but-mark : (r : ℕ) → withMark (markOf rows′ r) (rowAt rows r) ≡ rowAt rows′ r
+  row-but-mark r =
+      by-cases (decLt r n)
+      (λ i. row-only (marked (a .row r i)) (b .row r i) refl)
+      (λ i. ap (withMark (markOf rows′ r)) (a .rows-rest r (omega arith)) ∙ rest (b .rows-rest r (omega arith)))
+    where
+      marked : {m : ℕ} {x : RowNumbers} → Row (gridOf p) (p .codel) (codels p) map r x → Row (gridOf p) (p .codel) (codels p) map r (withMark m x)
+      marked x = record { first = x .first; is-first = x .is-first; colour = x .colour; size = x .size; row = x .row; column = x .column }
+
+      rest : {x : RowNumbers} → x ≡ blank → withMark (x .mark) blank ≡ x
+      rest z = ap (λ (y : RowNumbers). withMark (y .mark) blank) z ∙ sym z
+
+-- in one edition they are the same
+module _ {e : Edition} {p : Picture} {map rows exits work rows′ exits′ work′ : List ℕ} {n : ℕ}
+    (a : Builds e p map rows exits work n) (b : Builds e p map rows′ exits′ work′ n) where
   one-row : (r : ℕ) → rowAt rows r ≡ rowAt rows′ r
   one-row r =
       by-cases (decLt r n)
-      (λ i. row-only (a .row r i) (b .row r i) (one-mark (a .node r i) (b .node r i)))
+      (λ i. ap (λ (m : ℕ). withMark m (rowAt rows r)) (one-mark (a .node r i) (b .node r i)) ∙ row-but-mark a b r)
       (λ i. a .rows-rest r (omega arith) ∙ sym (b .rows-rest r (omega arith)))
 
-  pub one-rows : rows ≡ rows′
+  one-rows : rows ≡ rows′
   one-rows = same-rows rows rows′ (a .rows-long ∙ sym (b .rows-long)) one-row
 
 -- the exits are the same in one edition

@@ -32,22 +32,22 @@ use Rattle.picture.proofs.Codels.{inside-of}
 use Rattle.table.specs.ExitNumber.{exitNumber}
 use Rattle.cfg.proofs.Queueing.{at-in, region-low, queued, onward-none, onward-more}
 
-pub placed : {p : Picture} {r c : ℕ} {s : PointerState} {w : Way} → Inside p r c → Valid s → Attempt p r c s w → InGrid p w
+pub placed : {e : Edition} {p : Picture} {r c : ℕ} {s : PointerState} {w : Way} → Inside p r c → Valid s → Attempt e p r c s w → InGrid p w
 placed i v (shut e) = omega arith
-placed {p} {r} {c} {s} i v (step {r′ = a} {c′ = b} e) = coloured-inside p r c (s .dp) i e
-placed {p} {r} {c} {s} i v (glide {r′ = a} {c′ = b} e d) =
+placed {p = p} {r = r} {c = c} {s = s} i v (step {r′ = a} {c′ = b} e) = coloured-inside p r c (s .dp) i e
+placed {p = p} {r = r} {c = c} {s = s} i v (glide {r′ = a} {c′ = b} e d) =
     let j = white-inside p r c (s .dp) i e in
     let l = landing d j v in
     (j, l .place, l .valid)
-placed {p} {r} {c} {s} i v (lost {r′ = a} {c′ = b} e d) = white-inside p r c (s .dp) i e
+placed {p = p} {r = r} {c = c} {s = s} i v (lost {r′ = a} {c′ = b} e d) = white-inside p r c (s .dp) i e
 
 pub tries : {e : Edition} {p : Picture} {map : List ℕ} {r s i v : ℕ} {w : Way} {rows exits work : List ℕ} {tail : ℕ} {rows′ work′ : List ℕ} {tail′ : ℕ}
-    → Grounds p map → Found p map r → Queue p map rows work tail → length work ≡ codels p → s < 8
-    → LeavesBy map (rowsOf p) (colsOf p) (ofNumber s) r i → Attempt p (i / colsOf p) (i % colsOf p) (ofNumber s) w → InGrid p w
+    → Grounds p map → Found e p map r → Queue e p map rows work tail → length work ≡ codels p → s < 8
+    → LeavesBy map (rowsOf p) (colsOf p) (ofNumber s) r i → Attempt e p (i / colsOf p) (i % colsOf p) (ofNumber s) w → InGrid p w
     → v ≡ wayNumber e p map (codelColour p i) s w → Queued map (colsOf p) rows work tail w rows′ work′ tail′
     → Tries e p map r s rows exits work tail rows′ (set exits (exitCell r s) v) work′ tail′
 tries {e} {p} {map} {r} {s} {i} {v} {w} G f Q long h l a inside n d =
-    let t : Tried p map r (ofNumber s) w = record { codel = i; leaves = l; way = a } in
+    let t : Tried e p map r (ofNumber s) w = record { codel = i; leaves = l; way = a } in
     let x = queued G Q long inside (λ q z. next f (valid-number s h) t z) d in
     record {
       onward = x .0;
@@ -56,7 +56,7 @@ tries {e} {p} {map} {r} {s} {i} {v} {w} G f Q long h l a inside n d =
       settled = record { is = record { way = w; tried = t; number = n }; marked = x .1 };
     }
 
-pub several-none : {e : Edition} {p : Picture} {map : List ℕ} (r : ℕ) {rows : List ℕ} (exits : List ℕ) {work : List ℕ} {tail : ℕ} → Queue p map rows work tail → Several e p map r 0 rows exits work tail rows exits work tail
+pub several-none : {e : Edition} {p : Picture} {map : List ℕ} (r : ℕ) {rows : List ℕ} (exits : List ℕ) {work : List ℕ} {tail : ℕ} → Queue e p map rows work tail → Several e p map r 0 rows exits work tail rows exits work tail
 several-none r exits Q = record { onward = onward-none Q; settled = λ s h. absurd (omega arith); same = λ q s h d. refl; exits-length = refl }
 
 pub settled-on : {e : Edition} {p : Picture} {map rows rows′ : List ℕ} {r s x : ℕ} → ((q : ℕ) → markOf rows q ≡ 1 → markOf rows′ q ≡ 1) → Settled e p map rows r s x → Settled e p map rows′ r s x
@@ -106,20 +106,20 @@ module _ {p : Picture} {map : List ℕ} {r j : ℕ} (s : ℕ) (G : Grounds p map
   leave-inside = rw (ei, ec) (inside-of (G .sound) j (omega (arith, l .codel, G .long)))
 
   pub tries-read : {e : Edition} {v from : ℕ} {q : PointerState} {w : Way} {rows exits work : List ℕ} {tail : ℕ} {rows′ work′ : List ℕ} {tail′ : ℕ}
-      → Found p map r → Queue p map rows work tail → length work ≡ codels p → s < 8
-      → q ≡ ofNumber s → Attempt p (i / cols) (i % cols) q w → InGrid p w
+      → Found e p map r → Queue e p map rows work tail → length work ≡ codels p → s < 8
+      → q ≡ ofNumber s → Attempt e p (i / cols) (i % cols) q w → InGrid p w
       → from ≡ colourAt p (i / cols) (i % cols) → v ≡ wayNumber e p map from s w → Queued map (colsOf p) rows work tail w rows′ work′ tail′
       → Tries e p map r s rows exits work tail rows′ (set exits (exitCell r s) v) work′ tail′
   tries-read {e} {v} {from} {q} {w} f Q long h eq a inside ef n d =
-      let a′ : Attempt p (j / colsOf p) (j % colsOf p) (ofNumber s) w = rw (ei, ec, eq) at a in
+      let a′ : Attempt e p (j / colsOf p) (j % colsOf p) (ofNumber s) w = rw (ei, ec, eq) at a in
       let ef′ : from ≡ codelColour p j = rw (ei, ec) at ef in
       let n′ : v ≡ wayNumber e p map (codelColour p j) s w = rw ef′ at n in
       tries G f Q long h l a′ inside n′ d
 
 -- what the next of the eight attempts asks
 pub next-needs : {F : Type 0} {e : Edition} {p : Picture} {map : List ℕ} {r k : ℕ} {rows exits work : List ℕ} {tail : ℕ} {rows′ exits′ work′ : List ℕ} {tail′ : ℕ}
-    → Taken p map exits work r → Several e p map r k rows exits work tail rows′ exits′ work′ tail′ → k < 8 → F
-    → Grounds p map × (Found p map r × (Queue p map rows′ work′ tail′ × (LeavesBy map (rowsOf p) (colsOf p) (ofNumber k) r (exitAt exits′ r k)
+    → Taken e p map exits work r → Several e p map r k rows exits work tail rows′ exits′ work′ tail′ → k < 8 → F
+    → Grounds p map × (Found e p map r × (Queue e p map rows′ work′ tail′ × (LeavesBy map (rowsOf p) (colsOf p) (ofNumber k) r (exitAt exits′ r k)
     × ((length work′ ≡ codels p) × ((exitsRoom (r + 1) ≤ length exits′) × ((r < 65536) × ((k < 8) × F)))))))
 next-needs {r = r} {k = k} T W h f = (
   T .grounds,

@@ -74,22 +74,22 @@ pub record Occurs (map : List ℕ) (r : ℕ) : Type 0 where
   pub own : getD map codel 0 ≡ r
 
 -- a region that was queued
-pub record Waiting (p : Picture) (map rows : List ℕ) (r : ℕ) : Type 0 where
+pub record Waiting (e : Edition) (p : Picture) (map rows : List ℕ) (r : ℕ) : Type 0 where
   pub occurs : Occurs map r
   pub marked : markOf rows r ≡ 1
-  pub found : Found p map r
+  pub found : Found e p map r
 
 -- the queue, with what it has held before: each marked region once
-pub record Queue (p : Picture) (map rows work : List ℕ) (tail : ℕ) : Type 0 where
+pub record Queue (e : Edition) (p : Picture) (map rows work : List ℕ) (tail : ℕ) : Type 0 where
   pub room : Room rows work tail
-  pub waits : (q : ℕ) → q < tail → Waiting p map rows (getD work q 0)
+  pub waits : (q : ℕ) → q < tail → Waiting e p map rows (getD work q 0)
   pub distinct : (a b : ℕ) → a < b → b < tail → getD work a 0 ≢ getD work b 0
   pub bit : (r : ℕ) → markOf rows r ≤ 1
   pub seen : (r : ℕ) → markOf rows r ≡ 1 → (q : ℕ) × (q < tail) × (getD work q 0 ≡ r)
 
 -- the queue has grown: marks and what is queued stay, and no other field of a row changes
-pub record Onward (p : Picture) (map rows work : List ℕ) (tail : ℕ) (rows′ work′ : List ℕ) (tail′ : ℕ) : Type 0 where
-  pub queue : Queue p map rows′ work′ tail′
+pub record Onward (e : Edition) (p : Picture) (map rows work : List ℕ) (tail : ℕ) (rows′ work′ : List ℕ) (tail′ : ℕ) : Type 0 where
+  pub queue : Queue e p map rows′ work′ tail′
   pub on : tail ≤ tail′
   pub marks : (r : ℕ) → markOf rows r ≡ 1 → markOf rows′ r ≡ 1
   pub old : (q : ℕ) → q < tail → getD work′ q 0 ≡ getD work q 0
@@ -111,7 +111,7 @@ wayNumber e p map from s (Glide a b c d t) = exitNumber (regionAt p map c d) (st
 -- x is the number of region r's attempt in state s
 pub record Number (e : Edition) (p : Picture) (map : List ℕ) (r s x : ℕ) : Type 0 where
   pub way : Way
-  pub tried : Tried p map r (ofNumber s) way
+  pub tried : Tried e p map r (ofNumber s) way
   pub number : x ≡ wayNumber e p map (codelColour p (tried .codel)) s way
 
 -- and what the attempt adds is marked
@@ -121,14 +121,14 @@ pub record Settled (e : Edition) (p : Picture) (map rows : List ℕ) (r s x : �
 
 -- state s of region r is settled
 pub record Tries (e : Edition) (p : Picture) (map : List ℕ) (r s : ℕ) (rows exits work : List ℕ) (tail : ℕ) (rows′ exits′ work′ : List ℕ) (tail′ : ℕ) : Type 0 where
-  pub onward : Onward p map rows work tail rows′ work′ tail′
+  pub onward : Onward e p map rows work tail rows′ work′ tail′
   pub value : ℕ
   pub stored : exits′ ≡ set exits (exitCell r s) value
   pub settled : Settled e p map rows′ r s value
 
 -- the states below k of region r are settled, and no other exit changes
 pub record Several (e : Edition) (p : Picture) (map : List ℕ) (r k : ℕ) (rows exits work : List ℕ) (tail : ℕ) (rows′ exits′ work′ : List ℕ) (tail′ : ℕ) : Type 0 where
-  pub onward : Onward p map rows work tail rows′ work′ tail′
+  pub onward : Onward e p map rows work tail rows′ work′ tail′
   pub settled : (s : ℕ) → s < k → Settled e p map rows′ r s (exitAt exits′ r s)
   pub same : (q s : ℕ) → s < 8 → (q ≡ r → k ≤ s) → exitAt exits′ q s ≡ exitAt exits q s
   pub exits-length : length exits′ ≡ length exits
@@ -138,9 +138,9 @@ abbrev pub Leaving : Picture → List ℕ → List ℕ → ℕ → Type 0
 Leaving p map exits r = (s : ℕ) → s < 8 → LeavesBy map (rowsOf p) (colsOf p) (ofNumber s) r (exitAt exits r s)
 
 -- region r is taken from the queue: its exits hold the codels to leave by
-pub record Taken (p : Picture) (map exits work : List ℕ) (r : ℕ) : Type 0 where
+pub record Taken (e : Edition) (p : Picture) (map exits work : List ℕ) (r : ℕ) : Type 0 where
   pub grounds : Grounds p map
-  pub found : Found p map r
+  pub found : Found e p map r
   pub leaving : Leaving p map exits r
   pub work-long : length work ≡ codels p
   pub exits-long : exitsRoom (r + 1) ≤ length exits
@@ -158,9 +158,9 @@ pub record Ready (p : Picture) (map rows exits work : List ℕ) : Type 0 where
 
 -- what the search leaves: the found regions are marked and their exits are settled
 pub record Searched (e : Edition) (p : Picture) (map rows exits rows′ exits′ : List ℕ) : Type 0 where
-  pub marks : (r : ℕ) → Marks (Found p map r) (markOf rows′ r)
-  pub settled : (r : ℕ) → Found p map r → (s : ℕ) → s < 8 → Number e p map r s (exitAt exits′ r s)
-  pub same : (r s : ℕ) → s < 8 → (Found p map r → ⊥) → exitAt exits′ r s ≡ exitAt exits r s
+  pub marks : (r : ℕ) → Marks (Found e p map r) (markOf rows′ r)
+  pub settled : (r : ℕ) → Found e p map r → (s : ℕ) → s < 8 → Number e p map r s (exitAt exits′ r s)
+  pub same : (r s : ℕ) → s < 8 → (Found e p map r → ⊥) → exitAt exits′ r s ≡ exitAt exits r s
   pub cells : (r f : ℕ) → f < 5 → f ≢ markField → fieldAt rows′ r f ≡ fieldAt rows r f
 
 -- a row of a region that is marked and not white

@@ -166,8 +166,8 @@ fn try_state(
     tail: usize,
 ) -> usize
     requires { ⌜ Grounds (pictureOf (now colours) s) (now map) ⌝ }
-    requires { ⌜ Found (pictureOf (now colours) s) (now map) r ⌝ }
-    requires { ⌜ Queue (pictureOf (now colours) s) (now map) (now rows) (now work) tail ⌝ }
+    requires { ⌜ Found edition (pictureOf (now colours) s) (now map) r ⌝ }
+    requires { ⌜ Queue edition (pictureOf (now colours) s) (now map) (now rows) (now work) tail ⌝ }
     requires { ⌜ LeavesBy (now map) (rowsOf (pictureOf (now colours) s)) (colsOf (pictureOf (now colours) s)) (ofNumber state) r (exitAt (now exits) r state) ⌝ }
     requires { ⌜ length (now work) ≡ codels (pictureOf (now colours) s) ⌝ }
     requires { ⌜ exitsRoom (r + 1) ≤ length (now exits) ⌝ }
@@ -183,7 +183,7 @@ fn try_state(
     let col = i % cols;
     let from = colour_at(colours, s, row, col);
     let p = PointerState::of_number(state);
-    let way = attempt_from(colours, s, row, col, p);
+    let way = attempt_from(colours, s, edition, row, col, p);
     exits[cell] = way_number(colours, s, edition, map, from, state, way);
     queue_way(colours, s, map, way, rows, work, tail)
 }
@@ -200,8 +200,8 @@ fn try_states(
     work: &mut [u32],
     tail: usize,
 ) -> usize
-    requires { ⌜ Taken (pictureOf (now colours) s) (now map) (now exits) (now work) r ⌝ }
-    requires { ⌜ Queue (pictureOf (now colours) s) (now map) (now rows) (now work) tail ⌝ }
+    requires { ⌜ Taken edition (pictureOf (now colours) s) (now map) (now exits) (now work) r ⌝ }
+    requires { ⌜ Queue edition (pictureOf (now colours) s) (now map) (now rows) (now work) tail ⌝ }
     requires { ⌜ Frames (now colours) s ⌝ }
     ensures { λ t. ⌜ Several edition (pictureOf (now (colours .entry)) s) (now (map .entry)) r 8 (now (rows .entry)) (now (exits .entry)) (now (work .entry)) tail (now (rows .exit)) (now (exits .exit)) (now (work .exit)) t ⌝ }
 {

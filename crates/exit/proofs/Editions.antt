@@ -3,11 +3,13 @@
 --     lost-exactly      in edition 2 a slide is lost exactly where no landing comes, however long it goes on
 --     lands-both        where edition 1's slide lands, edition 2's lands at the same codel in the same state
 --     lost-then-late    a slide that is lost in edition 1 and lands in edition 2 has turned eight times or more
---     ways-beside       an attempt of edition 2 comes to what that of edition 1 comes to, but for such slides
+--     attempt-total     every attempt from a codel of the grid comes to something, in both editions
+--     ways-beside       in edition 2 to the same as in edition 1, but for such slides
+--     opens-both        what is open in edition 1 is open in edition 2, and leads to the same
 -- Assumes nothing.
-use mathlib.Core.Path.{_≡_, refl}
+use mathlib.Core.Path.{_≡_, refl, subst}
 use mathlib.Core.Bool.{Bool, true, false}
-use mathlib.Core.List.{[], _∷_}
+use mathlib.Core.List.{List, [], _∷_}
 use mathlib.Core.Logic.{_↔_}
 use Prim.Native.Nat.{ℕ, _<_, _≤_}
 use native.Mathlib.Omega.{arith}
@@ -19,15 +21,19 @@ use Rattle.base.proofs.Clash.{clash}
 use Rattle.flow.specs.Pointer.{Valid}
 use Rattle.flow.specs.declared.PointerState.{PointerState}
 use Rattle.picture.specs.Picture.{Picture, Inside}
+use Rattle.exit.specs.declared.slide.Sight.{Sight}
+use Rattle.exit.specs.declared.slide.Sight.the-variants.{Shut, White, Coloured}
 use Rattle.exit.specs.declared.slide.Slid.{Slid}
 use Rattle.exit.specs.declared.slide.Slid.the-variants.{Landed, Lost}
 use Rattle.exit.specs.declared.attempt.Way.{Way}
 use Rattle.exit.specs.declared.attempt.Way.the-variants.{Closed, Step, Astray, Glide}
 use Rattle.exit.specs.Trail.{station, Trail, Rule, mostTurns, turnsOf, eighthTurn, comesBack, lostBy, neverLost}
 use Rattle.exit.specs.Slide as slides
-use Rattle.exit.specs.Slide.{Slide, turn, move, land, Ends}
+use Rattle.exit.specs.Slide.{lookOf, Slide, turn, move, land, Ends}
 use Rattle.exit.specs.Attempt.{Attempt, shut, step, glide, lost}
-use Rattle.exit.proofs.Only.{slide-only}
+use Rattle.exit.specs.Opens as opens
+use Rattle.exit.specs.Opens.{Opens}
+use Rattle.exit.proofs.Only.{slide-only, attempt-only}
 use Rattle.exit.proofs.SlideLaws.{white-inside}
 use Rattle.exit.proofs.TrailLaws.{turns-turn, turns-move}
 use Rattle.exit.proofs.Lands.{lands-back}
@@ -92,18 +98,43 @@ pub data Ways (p : Picture) (s : PointerState) : Way → Way → Type 0 where
   late : {r c a b : ℕ} {u : PointerState} → Ends p eighthTurn r c s Lost → (d : Ends p comesBack r c s (Landed a b u)) → mostTurns ≤ turnsOf (d .trail)
       → Ways p s (Astray r c) (Glide r c a b u)
 
--- the attempt of edition 2, where that of edition 1 comes to w
-pub record Beside (p : Picture) (r c : ℕ) (s : PointerState) (w : Way) : Type 0 where
-  pub way : Way
-  pub tried : Attempt Page p r c s way
-  pub ways : Ways p s w way
+module _ {p : Picture} {r c : ℕ} {s : PointerState} (i : Inside p r c) (v : Valid s) where
+  -- an attempt comes to something, in both editions
+  pub attempt-total : (e : Edition) → (w : Way) × Attempt e p r c s w
+  attempt-total e = see (lookOf p r c (s .dp)) refl
+    where
+      slid : (a b : ℕ) → lookOf p r c (s .dp) ≡ White a b → (o : Slid) × Ends p (lostBy e) a b s o → (w : Way) × Attempt e p r c s w
+      slid a b q (Landed x y u, d) = (Glide a b x y u, glide q d)
+      slid a b q (Lost, d) = (Astray a b, lost q d)
 
-pub ways-beside : {p : Picture} {r c : ℕ} {s : PointerState} {w : Way} → Inside p r c → Valid s → Attempt Rust p r c s w → Beside p r c s w
-ways-beside i v (shut e) = record { way = Closed; tried = shut e; ways = same }
-ways-beside i v (step {r′ = a} {c′ = b} e) = record { way = Step a b; tried = step e; ways = same }
-ways-beside i v (glide {r′ = x} {c′ = y} {a = a} {b = b} {t = t} e d) = record { way = Glide x y a b t; tried = glide e (lands-both d); ways = same }
-ways-beside {p} {r} {c} {s} i v (lost {r′ = x} {c′ = y} e d) = by-end (page-slide-total p x y s (white-inside p r c (s .dp) i e) v)
-  where
-    by-end : (o : Slid) × Ends p comesBack x y s o → Beside p r c s (Astray x y)
-    by-end (Landed a b u, z) = record { way = Glide x y a b u; tried = glide e z; ways = late d z (lost-then-late d z) }
-    by-end (Lost, z) = record { way = Astray x y; tried = lost e z; ways = same }
+      see : (x : Sight) → lookOf p r c (s .dp) ≡ x → (w : Way) × Attempt e p r c s w
+      see Shut q = (Closed, shut q)
+      see (White a b) q = slid a b q (slide-total e p a b s (white-inside p r c (s .dp) i q) v)
+      see (Coloured a b) q = (Step a b, step q)
+
+  -- from edition 1's
+  beside : {w : Way} → Attempt Rust p r c s w → (w′ : Way) × Attempt Page p r c s w′ × Ways p s w w′
+  beside (shut q) = (Closed, shut q, same)
+  beside (step {r′ = a} {c′ = b} q) = (Step a b, step q, same)
+  beside (glide {r′ = x} {c′ = y} {a = a} {b = b} {t = t} q d) = (Glide x y a b t, glide q (lands-both d), same)
+  beside (lost {r′ = x} {c′ = y} q d) = by-end (page-slide-total p x y s (white-inside p r c (s .dp) i q) v)
+    where
+      by-end : (o : Slid) × Ends p comesBack x y s o → (w′ : Way) × Attempt Page p r c s w′ × Ways p s (Astray x y) w′
+      by-end (Landed a b u, z) = (Glide x y a b u, glide q z, late d z (lost-then-late d z))
+      by-end (Lost, z) = (Astray x y, lost q z, same)
+
+  pub ways-beside : {w w′ : Way} → Attempt Rust p r c s w → Attempt Page p r c s w′ → Ways p s w w′
+  ways-beside {w} x y =
+      let (w″, z, q) = beside x in
+      subst (Ways p s w) (attempt-only z y) q
+
+-- what is open in edition 1 is open in edition 2, and leads to the same
+pub glide-both : {p : Picture} {r c x y a b : ℕ} {s t : PointerState} → Attempt Rust p r c s (Glide x y a b t) → Attempt Page p r c s (Glide x y a b t)
+glide-both (glide q d) = glide q (lands-both d)
+
+step-both : {p : Picture} {r c a b : ℕ} {s : PointerState} → Attempt Rust p r c s (Step a b) → Attempt Page p r c s (Step a b)
+step-both (step q) = step q
+
+pub opens-both : {p : Picture} {map : List ℕ} {r target i : ℕ} {q u : PointerState} → Opens Rust p map r q target u i → Opens Page p map r q target u i
+opens-both (opens.beside t) = opens.beside (record { codel = t .codel; leaves = t .leaves; way = step-both (t .way) })
+opens-both (opens.across t) = opens.across (record { codel = t .codel; leaves = t .leaves; way = glide-both (t .way) })

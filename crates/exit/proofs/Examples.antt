@@ -15,7 +15,7 @@ use Rattle.exit.specs.declared.slide.Slid.the-variants.{Lost}
 use Rattle.exit.specs.Trail.{turnsOf, eighthTurn, occurs, comesBack, lostBy}
 use Rattle.exit.specs.Slide.{seenAs, seen, lookOf, lost, turn, move, land, Ends}
 use Rattle.exit.specs.Attempt.{Attempt, shut, glide, lost as astray}
-use Rattle.exit.proofs.Editions.{lands-both}
+use Rattle.exit.proofs.Editions.{glide-both}
 
 -- an attempt from the first codel
 abbrev Leaving : Edition → Picture → ℕ → Way → Type 0
@@ -24,7 +24,7 @@ Leaving e p state w = Attempt e p 0 0 (ofNumber state) w
 -- where a slide lands in edition 1, it does so in both
 in-both : {p : Picture} {r c x y a b : ℕ} {s t : PointerState} → Attempt Rust p r c s (Glide x y a b t) → (e : Edition) → Attempt e p r c s (Glide x y a b t)
 in-both x Rust = x
-in-both (glide e d) Page = glide e (lands-both d)
+in-both x Page = glide-both x
 
 -- red, white: two turns at the white codel, and so back to itself in state 4 and in state 5
 abbrev pub red-white : Picture

@@ -37,15 +37,15 @@ pub record Tabled (e : Edition) (p : Picture) (map rows exits : List ℕ) (n : �
 module _ {e : Edition} {p : Picture} {map rows exits : List ℕ} {n : ℕ} (S : Sound p) (B : Tabled e p map rows exits n) where
   -- what an exit to go through says
   pub record OpenExit (r : ℕ) (q : PointerState) (x : ℕ) : Type 0 where
-    pub opens : Opens p map r q (targetOf x) (pointersOf x) (instructionOf x)
-    pub node : Node p map (targetOf x)
+    pub opens : Opens e p map r q (targetOf x) (pointersOf x) (instructionOf x)
+    pub node : Node e p map (targetOf x)
     pub low : targetOf x < n
     pub valid : Valid (pointersOf x)
     pub some : x ≡ 0 → ⊥
     pub goes : ends x ≡ false
 
   -- an open exit says where it leads
-  opened : {r target i : ℕ} {q u : PointerState} → Found p map r → Valid q → Opens p map r q target u i → OpenExit r q (exitNumber target (stateNumber u) i)
+  opened : {r target i : ℕ} {q u : PointerState} → Found e p map r → Valid q → Opens e p map r q target u i → OpenExit r q (exitNumber target (stateNumber u) i)
   opened {target = target} {i = i} {u = u} f v o =
       let l = opens-leads S (B .regions) (B .map-long) f v o in
       let top = open-fits S (B .regions) (B .map-long) f v o .0 in
@@ -68,23 +68,23 @@ module _ {e : Edition} {p : Picture} {map rows exits : List ℕ} {n : ℕ} (S : 
     lost-slide : x ≡ lostSlide → Stuck p map r q e → Says r q x
     open-exit : OpenExit r q x → Says r q x
 
-  says : {r x : ℕ} {q : PointerState} → Valid q → Node p map r → Exit e p map r q x → Says r q x
+  says : {r x : ℕ} {q : PointerState} → Valid q → Node e p map r → Exit e p map r q x → Says r q x
   says v N (no-node a) = absurd (a N)
   says v N (shut a s) = passed-over refl s
   says v N (stuck a s) = lost-slide refl s
   says v N (leads a o) = open-exit (opened (N .found) v o)
 
-  pub exit-says : (r : ℕ) (q : PointerState) → r < n → Valid q → Node p map r → Says r q (exitAt exits r (stateNumber q))
+  pub exit-says : (r : ℕ) (q : PointerState) → r < n → Valid q → Node e p map r → Says r q (exitAt exits r (stateNumber q))
   exit-says r q h v N =
       says v N (subst (λ (u : PointerState). Exit e p map r u (exitAt exits r (stateNumber q))) (of-number q v) (B .exit r (stateNumber q) h (number-small q v)))
 
   -- the exit taken is that of the first open attempt, where no lost slide of edition 2 comes before it
   pub data Taken (r : ℕ) (q : PointerState) (x : ℕ) : Type 0 where
     none : ends x ≡ true → NoMove e p map r q → Taken r q x
-    some : ends x ≡ false → FirstOpen e p map r q (targetOf x) (pointersOf x) (instructionOf x) → Node p map (targetOf x) → targetOf x < n
+    some : ends x ≡ false → FirstOpen e p map r q (targetOf x) (pointersOf x) (instructionOf x) → Node e p map (targetOf x) → targetOf x < n
         → Valid (pointersOf x) → Taken r q x
 
-  module _ (r : ℕ) (q : PointerState) (h : r < n) (v : Valid q) (N : Node p map r) where
+  module _ (r : ℕ) (q : PointerState) (h : r < n) (v : Valid q) (N : Node e p map r) where
     last-or : (j k : ℕ) → j < suc k → (j < k) ⊎ (j ≡ k)
     last-or j k l = go (eqb j k) refl
       where

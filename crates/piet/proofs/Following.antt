@@ -152,7 +152,7 @@ module _ {p : Picture} {map rows exits : List ℕ} {n : ℕ} (S : Sound p) (g : 
   -- where a run stands after a history: the picture is walked to there; it is a node, and numbered; the pointers are a state
   pub record Stands (history : List Move) (m : Machine) : Type 0 where
     pub walk : Walk p map g room history (m .region) (m .store)
-    pub node : Node p map (m .region)
+    pub node : Node edition p map (m .region)
     pub inside : m .region < n
     pub valid : Valid (m .store .pointers)
 
@@ -284,7 +284,7 @@ module _ {p : Picture} {map rows exits : List ℕ} {n : ℕ} (S : Sound p) (g : 
           below-the-limit (end .stop) (end .at) (onto (m .region) (H .exits) history) at counted (omega (arith, H .counted)) (step-halts job (end .at) q)
 
   -- region 0 is a node where the picture does not begin white
-  entry-node : (getD (p .colours) 0 0 ≡ white → ⊥) → Node p map 0
+  entry-node : (getD (p .colours) 0 0 ≡ white → ⊥) → Node edition p map 0
   entry-node W = record {
     found = entry;
     coloured = λ w. W (first-colour ∙ joined-colour (B .regions .apart 0 (w .codel) (first-in S) (w .inside) (first-zero ∙ sym (w .own))) ∙ w .colour);

@@ -91,7 +91,7 @@ module _ {e : Edition} {p : Picture} {map : List ℕ} (S : Sound p) (L : length 
   first-only {r} {t} {i} {t′} {i′} {q} {u} {u′} v F G =
       let k : G .attempt ≡ F .attempt = omega (arith, not-before F G, not-before G F) in
       opens-only (cols-pos S) L (valid-attempt q (F .attempt) v) (F .opens)
-      (subst (λ (j : ℕ). Opens p map r (attemptOf q j) t′ u′ i′) k (G .opens))
+      (subst (λ (j : ℕ). Opens e p map r (attemptOf q j) t′ u′ i′) k (G .opens))
 
 module _ {p : Picture} {map : List ℕ} (S : Sound p) (L : length map ≡ codels p) where
   module _ (g : Given) (room : RunRoom) where

@@ -10,6 +10,7 @@ use borrow.Author.Tests.{lt-ltb, le-ltb, ltb-true, ltb-false, ne-eqb}
 use lib.Dec.{ltb}
 use lib.ListN.{length, getD, List·getD-map}
 use Rattle.base.proofs.Table.{all-at}
+use Rattle.base.specs.declared.edition.Edition.{Edition}
 use Rattle.colour.specs.Palette.{rgb, same, palette, black, white}
 use Rattle.colour.proofs.PaletteLaws.{same-bytes}
 use Rattle.colour.specs.Decode as decoding
@@ -236,9 +237,9 @@ slide-lands {p} {rule} {past} {t} {r} {c} {r′} {c′} {s} {o} h e = (
     on (land k f) h e = (refl, cc)
 
 -- a block that is entered from white executes nothing
-pub enters-silently : {p : Picture} {map : List ℕ} {r a b c d target i : ℕ} {q u v : PointerState} → Sound p → length map ≡ codels p → Valid q
-    → Tried p map r q (Glide a b c d u) → Opens p map r q target v i
+pub enters-silently : {e : Edition} {p : Picture} {map : List ℕ} {r a b c d target i : ℕ} {q u v : PointerState} → Sound p → length map ≡ codels p → Valid q
+    → Tried e p map r q (Glide a b c d u) → Opens e p map r q target v i
     → (g : Given) (size : ℕ) (m : Store) → exec g size (opNumbered i) m ≡ does m
 unfolding exec
-enters-silently S L k t (beside x) g size m = let e = same-way (cols-pos S) L k t x in clash (cc)
+enters-silently S L k t (beside x) g size m = let same = same-way (cols-pos S) L k t x in clash (cc)
 enters-silently S L k t (across x) g size m = refl

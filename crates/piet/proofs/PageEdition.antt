@@ -90,7 +90,7 @@ page-char-in g e reads size m c cs u = (
 -- while steps are left and no input is awaited: where a lost slide comes before any open attempt the program ends
 pub page-lost-slide : {p : Picture} {map : List ℕ} {g : Given} {room : RunRoom} {e : End} → g .terms .edition ≡ Page → Follows p map g room e
     → e .at .steps < g .terms .limit → e .at .store .reading .awaiting ≡ false
-    → (k a b : ℕ) → k < 8 → Tried p map (e .at .region) (attemptOf (e .at .store .pointers) k) (Astray a b)
+    → (k a b : ℕ) → k < 8 → Tried Page p map (e .at .region) (attemptOf (e .at .store .pointers) k) (Astray a b)
     → ShutBefore Page p map (e .at .region) (e .at .store .pointers) k → e .stop ≡ Completed
 page-lost-slide {p} {map} {g} {e = e} h F l w k a b few t before = F .completed .1 (l, w, over)
   where
@@ -99,5 +99,5 @@ page-lost-slide {p} {map} {g} {e = e} h F l w k a b few t before = F .completed 
 
 -- and there is no move from such a place, however a run comes there
 pub page-none-past : {p : Picture} {map : List ℕ} {r t i : ℕ} {q u : PointerState} → Sound p → length map ≡ codels p → Valid q
-    → (k a b : ℕ) → k < 8 → Tried p map r (attemptOf q k) (Astray a b) → ShutBefore Page p map r q k → FirstOpen Page p map r q t u i → ⊥
+    → (k a b : ℕ) → k < 8 → Tried Page p map r (attemptOf q k) (Astray a b) → ShutBefore Page p map r q k → FirstOpen Page p map r q t u i → ⊥
 page-none-past S L v k a b few t before F = not-both S L v (lost-first k few (lost t) before) F

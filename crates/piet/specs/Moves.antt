@@ -17,7 +17,7 @@ module _ (e : Edition) (p : Picture) (map : List ℕ) (r : ℕ) (q : PointerStat
   pub record FirstOpen (target : ℕ) (u : PointerState) (i : ℕ) : Type 0 where
     pub attempt : ℕ
     pub few : attempt < 8
-    pub opens : Opens p map r (attemptOf q attempt) target u i
+    pub opens : Opens e p map r (attemptOf q attempt) target u i
     pub before : ShutBefore attempt
 
   -- no move is left: all eight are passed over (rule 11.1), or the first that is not is a lost slide (rule 16.6)

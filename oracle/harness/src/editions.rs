@@ -41,9 +41,21 @@ impl Built {
         let ran = page::run_table(self.rows.len(), rows, exits, &question.page_terms());
         ran.expect("what was built is a table")
     }
+
+    /// The same as far as the first edition does the same over this table, and the limit up to there.
+    pub fn run_by_both(&self, question: &Question) -> (End, u64) {
+        let end = self.run_by_page(question);
+        let limit = end.parting.map_or(question.limit, |(steps, _)| steps);
+        (self.run_by_page(&Question { limit, ..question.clone() }), limit)
+    }
 }
 
 impl Question {
+    /// The run by the second edition over the codels, which tells a long slide from others; None where pixel (0,0) is white.
+    pub fn walked(&self) -> Option<End> {
+        page::run_grid(&grid(&self.picture), &self.page_terms())
+    }
+
     pub fn page_terms(&self) -> page::Terms<'_> {
         let Question { limit, is_abstract, room, ref input, .. } = *self;
         page::Terms { limit, is_abstract, input, stack: room.stack, outputs: room.outputs }

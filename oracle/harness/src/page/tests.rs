@@ -42,12 +42,12 @@ fn ended(lines: &[&str], limit: u64) -> [u64; 8] {
 }
 
 /// The table of the first edition, and the first eight numbers of its run, by the Rust.
-fn by_rust(lines: &[&str], limit: u64) -> (Built, Vec<u64>) {
+fn by_rust(lines: &[&str], limit: u64) -> (Built, [u64; 8]) {
     let (room, input) = (Room { stack: 16, outputs: 8 }, vec![]);
     let question = Question { picture: drawn(1, lines), limit, is_abstract: false, room, input };
     let (built, ran) = question.asked().expect("an entry that is not white");
-    let numbers = Left::by_rust(&built, &ran).numbers[..8].to_vec();
-    (built, numbers)
+    let numbers = Left::by_rust(&built, &ran).numbers;
+    (built, *numbers.first_chunk().expect("twelve"))
 }
 
 fn executed(program: &[Instruction], input: &[u8]) -> End {
@@ -115,6 +115,146 @@ fn nodes_are_found_through_white_though_its_slides_are_lost() {
     assert_eq!(exits[0], [LOST, LOST, 0, 0, 0, 0, 0, 0]);
     // The white region itself has no exits in a table.
     assert_eq!(exits[1], [0; 8]);
+}
+
+const SPIRAL: [&str; 10] = [
+    "r.......", "#######.", "......#.", ".####.#.", ".#..#.#.", ".#.r#.#.", ".#.##.#.", ".#....#.",
+    ".######.", "........",
+];
+
+/// Where the slide of this state out of a codel's block lands.
+fn landing(grid: &Grid, of: Codel, state: u32) -> Option<Landing> {
+    match grid.attempt(&grid.block(of), Pointers::numbered(state)) {
+        Way::Across { landing, .. } => landing,
+        _ => None,
+    }
+}
+
+#[test]
+fn a_slide_is_lost_where_it_comes_back_to_its_first_state_or_to_a_later_one() {
+    for lost in [&["r.", "#."][..], &["r..", "##."], &["r..", "r#."], &["r..", ".#."]] {
+        assert_eq!(table(lost).exits[0][0], LOST, "{lost:?}");
+    }
+    assert_eq!(table(&["r..", "##."]).exits[0], [LOST, LOST, 0, 0, 0, 0, 0, 0]);
+}
+
+#[test]
+fn the_smallest_table_with_a_long_slide() {
+    let lines = ["r.##", "#...", "..r#"];
+    assert_eq!(table(&lines).exits[4], [0, 0, 0, 0, 5, 65_541, 65_541, 5]);
+    assert_eq!(by_rust(&lines, 0).0.exits[4], [0, 0, 0, 0, 5, 65_541, 0, 0]);
+    let grid = grid(&drawn(1, &lines));
+    let turns = |state| landing(&grid, grid.codel(10), state).map(|l| l.turns);
+    assert_eq!([turns(6), turns(7)], [Some(9); 2]);
+}
+
+#[test]
+fn the_smallest_run_with_a_long_slide() {
+    let lines = ["r.##", "#..r", "...#", "##.#"];
+    assert_eq!(table(&lines).exits[0][0], 5);
+    let (built, ran) = by_rust(&lines, 9);
+    assert_eq!((built.exits[0][0], ran), (0, [1, 0, 0, 0, 0, 0, 0, 0]));
+    assert_eq!(ended(&lines, 1), [2, 1, 4, 0, 0, 0, 0, 0]);
+    let end = run_picture(&drawn(1, &lines), &terms(1, b""));
+    assert_eq!(end.parting, Some((0, Parting::LongSlide)));
+}
+
+#[test]
+fn a_spiral_of_nine_turns_lands_on_a_node_of_this_edition_alone() {
+    let Table { rows, exits, .. } = table(&SPIRAL);
+    assert_eq!((exits[0], rows[3][4]), ([196_612, 131_076, 0, 0, 0, 0, 0, 0], 1));
+    assert_eq!(ended(&SPIRAL, 1), [2, 1, 3, 1, 1, 0, 0, 0]);
+    let (built, ran) = by_rust(&SPIRAL, 1);
+    assert_eq!((built.exits[0], built.rows[3][4]), ([0; 8], 0));
+    assert_eq!(ran, [1, 0, 0, 0, 0, 0, 0, 0]);
+}
+
+#[test]
+fn a_spiral_around_black_is_lost() {
+    let shut = SPIRAL.map(|line| line.replace(".r", ".#"));
+    let shut = shut.each_ref().map(String::as_str);
+    assert_eq!(table(&shut).exits[0], [LOST, LOST, 0, 0, 0, 0, 0, 0]);
+    assert_eq!(ended(&shut, 9), [1, 0, 0, 0, 0, 0, 0, 0]);
+    assert_eq!(by_rust(&shut, 9).0.exits[0], [0; 8]);
+}
+
+#[test]
+fn spirals_about_the_eighth_turn() {
+    let seven = ["r.....", "#####.", "....#.", ".##.#.", ".#r.#.", ".#..#.", ".####.", "......"];
+    let eight = [
+        "r.......", "#######.", "......#.", ".####.#.", ".#.r#.#.", ".#....#.", ".######.",
+        "........",
+    ];
+    let turns = |lines: &[&str]| {
+        let grid = grid(&drawn(1, lines));
+        landing(&grid, grid.codel(0), 0).map(|l| l.turns)
+    };
+    assert_eq!([turns(&seven), turns(&eight), turns(&SPIRAL)], [7, 8, 9].map(Some));
+    assert_eq!(by_rust(&seven, 0).0.exits, table(&seven).exits);
+    assert_eq!(table(&eight).exits[0], [4, 65_540, 0, 0, 0, 0, 0, 0]);
+    assert_eq!(by_rust(&eight, 0).0.exits[0], [0; 8]);
+}
+
+/// The slide from a white codel by another record: from so many stations on, of this much of the pointers.
+fn recorded(
+    grid: &Grid,
+    (mut at, mut by): (Codel, Pointers),
+    from: usize,
+    kept: fn(Pointers) -> u32,
+) -> Option<Landing> {
+    let (mut had, mut turns) = (HashSet::new(), 0);
+    for station in 0.. {
+        if station >= from && !had.insert((at, kept(by))) {
+            break;
+        }
+        match (at.next(by.dp), grid.colour(at.next(by.dp))) {
+            (_, None | Some(18)) => (by, turns) = (by.switched(1).turned(1), turns + 1),
+            (ahead, Some(19)) => at = ahead,
+            (ahead, Some(_)) => return Some(Landing { at: ahead, by, turns }),
+        }
+    }
+    None
+}
+
+#[test]
+fn slides_are_the_same_by_records_with_cc_and_without_the_first_stations() {
+    let mut random = Random::seeded(1);
+    for grid in (0..500).map(|_| grid(&random.white_ways(12))) {
+        let coloured = grid.codels().filter(|&c| !grid.is_white(c));
+        for (of, state) in coloured.flat_map(|c| (0..8).map(move |state| (c, state))) {
+            let by = Pointers::numbered(state);
+            if let Way::Across { white, landing } = grid.attempt(&grid.block(of), by) {
+                assert_eq!(landing, recorded(&grid, (white, by), 0, Pointers::number));
+                assert_eq!(landing, recorded(&grid, (white, by), 1, |by| by.dp));
+                assert_eq!(landing, recorded(&grid, (white, by), 9, |by| by.dp));
+            }
+        }
+    }
+}
+
+/// By the Rust's exit of a node, and that of the model.
+#[test]
+fn the_first_edition_s_slides_land_the_same_and_others_turn_eight_times_or_more() {
+    let (mut random, mut long) = (Random::seeded(2), 0);
+    for picture in (0..500).map(|_| random.white_ways(12)) {
+        let (rust, grid) = (crate::picture::build(&picture), grid(&picture));
+        let model = build(&grid).expect("an entry that is not white");
+        for (region, row) in rust.rows.iter().enumerate().filter(|(_, row)| row[4] == 1) {
+            assert_eq!(*row, model.rows[region]);
+            let first = rust.map.iter().position(|&r| r == region as u32).expect("a codel");
+            for state in 0..8 {
+                let turns = landing(&grid, grid.codel(first), state).map(|l| l.turns);
+                let exits = [&rust.exits, &model.exits].map(|exits| exits[region][state as usize]);
+                match (turns, exits) {
+                    (Some(8..), [rust, model]) => assert!(rust == 0 && model != LOST),
+                    (None, [rust, LOST]) => assert_eq!(rust, 0),
+                    (_, [rust, model]) => assert_eq!(rust, model),
+                }
+                long += turns.is_some_and(|turns| turns >= 8) as u32;
+            }
+        }
+    }
+    assert!(long > 500, "{long} are long");
 }
 
 #[test]

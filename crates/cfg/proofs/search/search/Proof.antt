@@ -17,8 +17,8 @@ abbrev μ-loop : tie.MeasureT-loop
 
 visit-requires : tie.Need-visit-requires Inv-loop μ-loop
 visit-requires c κs =
-    let the-pre = c .before .before .before .before .before .before .before .pre in
-    (queue-first (the-pre .0) .room, first-low (the-pre .0))
+    let start = c .before .before .before .before .before .before .before in
+    (queue-first {e = start .args .edition} (start .pre .0) .room, first-low (start .pre .0))
 
 loop-holds : tie.Need-loop-holds Inv-loop μ-loop
 loop-holds c =
