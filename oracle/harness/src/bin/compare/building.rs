@@ -3,9 +3,9 @@ use crate::cases::{
     bits, check, hex, is_edition, over, pattern, relent, wide, without_lines, Case, Checked, Named,
     Outcome, NO_EDITION,
 };
-use harness::editions::{self, RUST};
+use harness::editions::{self, PAGE, RUST};
 use harness::library::{self, Lent};
-use harness::page::LOST;
+use harness::page::{self, LOST};
 use harness::picture::{Built, Picture};
 use harness::random::Random;
 
@@ -252,15 +252,29 @@ impl Building {
     }
 }
 
+/// What slides there are in the second edition's table: lost ones, long ones, and such as alone lead to a node.
+pub fn kinds_of_slides(picture: &Picture) -> Vec<String> {
+    let grid = editions::grid(picture);
+    let tables = [page::build(&grid), page::build_short(&grid)];
+    let [all, short] = tables.map(|table| table.expect("an entry that is not white"));
+    let is_long = |r: usize| short.rows[r][4] == 1 && short.exits[r] != all.exits[r];
+    let kinds = [
+        ("a lost slide in the table", all.exits.as_flattened().contains(&LOST)),
+        ("a long slide in the table", (0..all.rows.len()).any(is_long)),
+        ("a node by long slides alone", all.rows != short.rows),
+    ];
+    kinds.iter().filter(|(_, there)| *there).map(|(kind, _)| kind.to_string()).collect()
+}
+
 impl Case for Building {
     fn outcomes(&self) -> [Outcome; 2] {
         [self.expected(), self.found()]
     }
 
     fn kinds(&self, expected: &Outcome) -> Vec<String> {
-        let lost = expected.list("exits").contains(&LOST.into());
-        let lost = lost.then(|| "a lost slide in the table".to_string());
-        [expected.number_returned()].into_iter().chain(lost).collect()
+        let is_page = expected.list("number") == [0] && self.edition == PAGE;
+        let slides = if is_page { kinds_of_slides(&self.picture()) } else { vec![] };
+        [vec![expected.number_returned()], slides].concat()
     }
 
     fn smaller(&self) -> impl Iterator<Item = Self> {

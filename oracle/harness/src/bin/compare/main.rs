@@ -10,6 +10,8 @@ mod forever;
 #[cfg(feature = "label")]
 mod label;
 #[cfg(feature = "page")]
+mod modelled;
+#[cfg(feature = "page")]
 mod page;
 #[cfg(feature = "picture")]
 mod picturing;
@@ -17,6 +19,8 @@ mod picturing;
 mod rolling;
 #[cfg(feature = "run")]
 mod running;
+#[cfg(feature = "slide")]
+mod slide;
 #[cfg(any(feature = "forever", feature = "run"))]
 mod tables;
 
@@ -41,6 +45,8 @@ const PARTS: &[(&str, fn() -> Checked)] = &[
     ("picture", picturing::compare),
     #[cfg(feature = "page")]
     ("page", page::compare),
+    #[cfg(feature = "slide")]
+    ("slide", slide::compare),
 ];
 
 fn main() -> ExitCode {

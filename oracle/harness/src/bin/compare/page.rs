@@ -1,12 +1,11 @@
-//! The second edition against its model, and the model against the Rust as far as the editions agree.
+//! The second edition against its model.
 use crate::building::{self, large, over_colours, Building};
-use crate::cases::{check, wide, Case, Checked, Outcome, NO_EDITION};
+use crate::cases::{check, Checked, NO_EDITION};
+use crate::modelled::Modelled;
 use crate::picturing::{self, Picturing};
-use crate::running::{self, entered, kinds_of_end, shown_terms, sooner, Running};
-use crate::tables::{shown_picture, smaller_pictures};
-use harness::editions::{self, Editions, Left, PAGE, RUST};
+use crate::running::{self, entered, Running};
+use harness::editions::{Editions, PAGE, RUST};
 use harness::numbers::palette;
-use harness::page::{run_grid, End, LOST};
 use harness::paint::{row, row_over_white, Op};
 use harness::picture::Picture;
 use harness::question::Question;

@@ -212,8 +212,9 @@ impl Case for Picturing {
     fn kinds(&self, expected: &Outcome) -> Vec<String> {
         let mut kinds = expected.kinds_of_run();
         if expected.list("number") == [0] && self.edition == PAGE {
-            let built = self.judged().into_iter().map(|(built, _)| built);
-            kinds.extend(built.flat_map(|b| kinds_of_end(&b.run_by_page(&self.question))));
+            let picture = self.judged().ok().map(|(_, picture)| picture);
+            let question = picture.map(|picture| Question { picture, ..self.question.clone() });
+            kinds.extend(question.and_then(|q| q.walked()).iter().flat_map(kinds_of_end));
         }
         kinds
     }

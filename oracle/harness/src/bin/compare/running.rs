@@ -147,9 +147,14 @@ impl Running {
     }
 
     /// Where the Rust panics and the rules choose, the run is asked up to there only. A table of the second edition without a
-    /// lost slide is the Rust's, and the Rust runs over its own.
+    /// lost slide is the Rust's, and the Rust runs over its own; but where slides are long it is not, and the model runs over
+    /// it, as far as the editions do the same.
     fn by_rust(&self, built: &Built) -> (Result<Left, u32>, u64) {
         let own = (self.editions.build != RUST).then(|| build(&self.question.picture));
+        if own.as_ref().is_some_and(|own| own.exits != built.exits) {
+            let (end, limit) = built.run_by_both(&self.question);
+            return (Ok(Left::by_page(&end)), limit);
+        }
         let built = own.as_ref().unwrap_or(built);
         let ran = self.question.judged(built);
         let limit = if ran.panic.is_some() { ran.answer.steps } else { self.question.limit };
@@ -158,6 +163,14 @@ impl Running {
 
     fn by_page(&self, table: &Table) -> Option<End> {
         page::run_table(table.n, &table.rows, &table.exits, &self.question.page_terms())
+    }
+
+    /// By the model, and over the codels where the table is theirs, which tells long slides.
+    fn end(&self) -> Option<End> {
+        match (self.editions.build, self.spoil) {
+            (PAGE, Spoil::None) => self.question.walked(),
+            (_, spoil) => self.by_page(&spoil.applied_to(&self.built())),
+        }
     }
 
     fn expected(&self, judged: &Result<Left, u32>) -> Outcome {
@@ -201,9 +214,8 @@ impl Case for Running {
         if is_edition(run) && (build, run) != (RUST, RUST) {
             kinds.push(format!("built by {build} and run by {run}"));
         }
-        if expected.list("number") == [0] && self.editions.run == PAGE {
-            let end = self.by_page(&self.spoil.applied_to(&self.built()));
-            kinds.extend(end.iter().flat_map(kinds_of_end));
+        if expected.list("number") == [0] && run == PAGE {
+            kinds.extend(self.end().iter().flat_map(kinds_of_end));
         }
         kinds
     }
