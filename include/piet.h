@@ -62,6 +62,8 @@ enum piet_refusal {
  * two differ in these:
  *
  *                      PIET_EDITION_RUST                         PIET_EDITION_PAGE
+ *   a slide over       at its eighth turn                        where it comes to a codel with a dp that it had there
+ *   white is lost                                                before, by a move or a turn
  *   a lost slide       its attempt is not open, exit 0: the      its exit is PIET_EXIT_LOST: where no attempt before
  *   over white         next of the eight is tried                it is open, the run is completed without a step
  *   Div, Mod by 0      both values are gone                      the stack stays as it was

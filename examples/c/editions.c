@@ -1,5 +1,5 @@
 /*
- * One picture in both editions of the rules. It has six codels:
+ * Two pictures in both editions of the rules. The first has six codels:
  *
  *     red     white   white
  *     white   black   white
@@ -12,6 +12,10 @@
  * Facing down there is a slide that turns twice and comes back to red. That is a step, and it is made again up to the
  * limit. Edition 2 has those of the public page: where a run comes to a lost slide it is over.
  *
+ * The second is the white spiral of examples/spiral9.txt, between black walls, with nine right turns to a red codel in
+ * the middle. In edition 1 a slide is lost at its eighth turn, so that this one is, and no attempt is left. In edition 2
+ * it is lost only where it comes back to a codel with a dp that it had there: it lands in the middle.
+ *
  *     rt staticlib piet_c
  *     gcc examples/c/editions.c -Iinclude -Ltarget/staticlib -lpiet_c -o editions
  *     ./editions | diff examples/c/editions.out -
@@ -22,16 +26,32 @@
 #include "piet.h"
 #include "told.h"
 
-enum { HEIGHT = 2, WIDTH = 3, CODEL = 1, STACK = 16, OUTPUTS = 16, LIMIT = 9 };
+enum { CODEL = 1, STACK = 16, OUTPUTS = 16 };
 
-#define CODELS ((size_t)HEIGHT * WIDTH)
+/* The codels of the larger picture; the smaller one has room enough too. */
+#define CODELS ((size_t)80)
 
-static const uint8_t colours[CODELS] = {
-    PIET_RED,   PIET_WHITE, PIET_WHITE,
-    PIET_WHITE, PIET_BLACK, PIET_WHITE,
+/* A picture is drawn row by row: R is red, # is black, every other codel is white. */
+struct drawing {
+    size_t height, width;
+    const char *codels;
 };
 
-/* The table of the picture, as piet_build fills it. */
+static const struct drawing six_codels = {2, 3, "R.."
+                                                ".#."};
+
+static const struct drawing spiral = {10, 8, "R......."
+                                             "#######."
+                                             "......#."
+                                             ".####.#."
+                                             ".#..#.#."
+                                             ".#.R#.#."
+                                             ".#.##.#."
+                                             ".#....#."
+                                             ".######."
+                                             "........"};
+
+/* The table of a picture, as piet_build fills it. */
 struct table {
     size_t regions;
     uint32_t map[CODELS], rows[PIET_ROW * CODELS], exits[PIET_EXITS * CODELS], work[CODELS];
@@ -45,24 +65,33 @@ static bool done(uint32_t number)
     return number == PIET_DONE;
 }
 
-static bool build(uint32_t edition, struct table *table)
+static uint8_t colour_of(char drawn)
 {
+    return drawn == 'R' ? PIET_RED : drawn == '#' ? PIET_BLACK : PIET_WHITE;
+}
+
+static bool build(const struct drawing *drawing, uint32_t edition, struct table *table)
+{
+    uint8_t colours[CODELS];
     uint64_t answer[PIET_BUILD_ANSWER];
-    uint32_t number = piet_build(colours, CODELS, HEIGHT, WIDTH, CODEL, edition, table->map, CODELS,
+    size_t count = drawing->height * drawing->width;
+    for (size_t i = 0; i < count; i++)
+        colours[i] = colour_of(drawing->codels[i]);
+    uint32_t number = piet_build(colours, count, drawing->height, drawing->width, CODEL, edition, table->map, CODELS,
                                  table->rows, PIET_ROW * CODELS, table->exits, PIET_EXITS * CODELS,
                                  table->work, CODELS, answer, PIET_BUILD_ANSWER);
     table->regions = (size_t)answer[0];
     return done(number);
 }
 
-static void run(uint32_t edition, const struct table *table)
+static void run(uint32_t edition, uint64_t limit, const struct table *table)
 {
     const uint8_t no_input[1] = {0}; /* an empty slice has a pointer too */
     uint8_t kinds[OUTPUTS];
     int64_t stack[STACK], values[OUTPUTS];
     uint64_t answer[PIET_RUN_ANSWER];
     uint32_t number = piet_run(table->regions, table->rows, PIET_ROW * CODELS, table->exits, PIET_EXITS * CODELS,
-                               edition, LIMIT, false, no_input, 0, stack, STACK, kinds, OUTPUTS, values, OUTPUTS,
+                               edition, limit, false, no_input, 0, stack, STACK, kinds, OUTPUTS, values, OUTPUTS,
                                answer, PIET_RUN_ANSWER);
     const struct told told = {answer, table->rows, stack, kinds, values};
     if (done(number))
@@ -86,32 +115,46 @@ static void print_exits(const struct table *table)
     }
 }
 
+/* Builds in one edition, tells the ways out of the red codel at (0,0), and runs. False where building is refused. */
+static bool show(const struct drawing *drawing, uint32_t edition, uint64_t limit, struct table *table)
+{
+    if (!build(drawing, edition, table))
+        return false;
+    print_exits(table);
+    run(edition, limit, table);
+    return true;
+}
+
 int main(void)
 {
     struct table by_rust, by_page, by_none;
 
     printf("edition 1, the Rust program: the ways out of red\n");
-    if (!build(PIET_EDITION_RUST, &by_rust))
+    if (!show(&six_codels, PIET_EDITION_RUST, 9, &by_rust))
         return 1;
-    print_exits(&by_rust);
-    run(PIET_EDITION_RUST, &by_rust);
 
     printf("\nedition 2, the public page: the ways out of red\n");
-    if (!build(PIET_EDITION_PAGE, &by_page))
+    if (!show(&six_codels, PIET_EDITION_PAGE, 9, &by_page))
         return 1;
-    print_exits(&by_page);
-    run(PIET_EDITION_PAGE, &by_page);
 
     /* A table is run by its exits as they stand: in that of edition 1
      * a lost slide is not open, and the next attempt is made. */
     printf("\nthe table of edition 1, run in edition 2\n");
-    run(PIET_EDITION_PAGE, &by_rust);
+    run(PIET_EDITION_PAGE, 9, &by_rust);
 
     /* In edition 1 there is no lost slide in a table, so that this is no table: refusal 10. */
     printf("\nthe table of edition 2, run in edition 1\n");
-    run(PIET_EDITION_RUST, &by_page);
+    run(PIET_EDITION_RUST, 9, &by_page);
+
+    /* One step is enough for the spiral: the whole slide. */
+    printf("\nthe spiral in edition 1\n");
+    if (!show(&spiral, PIET_EDITION_RUST, 1, &by_rust))
+        return 1;
+    printf("\nthe spiral in edition 2\n");
+    if (!show(&spiral, PIET_EDITION_PAGE, 1, &by_page))
+        return 1;
 
     /* Other numbers name no edition, and none is taken for granted: refusal 15. */
     printf("\nedition 0\n");
-    return build(0, &by_none) ? 1 : 0;
+    return build(&six_codels, 0, &by_none) ? 1 : 0;
 }

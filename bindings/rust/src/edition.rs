@@ -5,8 +5,9 @@ use crate::Refusal;
 numbered! {
     /// The edition of the rules by which a table is built or run.
     ///
-    /// The two differ in what becomes of a slide over white that is lost, in Div, Mod and Roll where they can't be carried
-    /// out, in the sign of Mod, and in how much CharIn takes of its line; include/piet.h has them side by side.
+    /// The two differ in when a slide over white is lost and what becomes of it then, in Div, Mod and Roll where they
+    /// can't be carried out, in the sign of Mod, and in how much CharIn takes of its line; include/piet.h has them side
+    /// by side.
     ///
     /// ```
     /// use piet::{run_pixels, Cells, Edition, Picture, Shape, Status, Terms};

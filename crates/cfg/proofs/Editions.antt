@@ -2,7 +2,7 @@
 --     same-table      map and count of regions are the same, and so are the rows but for their marks
 --     found-both      what is found in edition 1 is found in edition 2, so that a node of 1 is one of 2
 --     marks-grow      and its mark stays
---     new-found       what is found in edition 2 alone is reached through a slide that lands after its eighth turn
+--     new-found       where a region is found in edition 2 alone, a region of edition 1 has a slide that lands after its eighth turn
 --     exits-beside    an exit of edition 2 is that of edition 1; or there it is 0, and here it is that of a lost slide, of a slide
 --                     that lands after its eighth turn, or of a node of edition 2 alone
 --     same-exit       so where edition 1 has an exit, edition 2 has the same one

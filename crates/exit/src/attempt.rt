@@ -4,9 +4,9 @@ ghost use Rattle.picture.specs.Picture.{pictureOf, Frames, Inside};
 ghost use Rattle.exit.specs.Attempt.{Attempt};
 ghost use Rattle.exit.specs.Slide.{Ends};
 ghost use Rattle.exit.specs.Trail.{lostBy};
-use base::edition::Edition;
 use crate::slide::Sight;
 use crate::slide::Slid;
+use base::edition::Edition;
 use flow::PointerState;
 use picture::shape::Shape;
 

@@ -25,9 +25,9 @@ struct Watch {
 }
 
 // Where a slide ends, and how many looks that took.
-pub struct Walked {
-    pub end: Slid,
-    pub looks: usize,
+struct Walked {
+    end: Slid,
+    looks: usize,
 }
 
 // Whether the kept station is met again.
@@ -75,7 +75,7 @@ fn noted(w: Watch, row: usize, col: usize, dp: u8) -> Watch
 
 // The slide from a white codel, watched. A codel with a dp decides all that follows, so a slide that meets a station
 // again never lands, and one that never lands meets the kept station again: that is what ends the loop.
-pub fn walk(colours: &[u8], s: Shape, row: usize, col: usize, from: PointerState) -> Walked
+fn walk(colours: &[u8], s: Shape, row: usize, col: usize, from: PointerState) -> Walked
     requires { ⌜ Frames (now colours) s × Inside (pictureOf (now colours) s) row col × Valid from ⌝ }
     ensures { λ r. ⌜ Walks (pictureOf (now (colours .entry)) s) row col from r ⌝ }
 {

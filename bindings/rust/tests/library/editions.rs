@@ -15,6 +15,10 @@ const NINE_STEPS: Terms = Terms { limit: 9, ..TERMS };
 /// Two rows, in which the slide to the right is lost and the slide down comes back.
 const BOTH_SLIDES: &str = "R../.#.";
 
+/// A white spiral with nine right turns to a red codel in the middle.
+const SPIRAL: &str =
+    "R......./#######./......#./.####.#./.#..#.#./.#.R#.#./.#.##.#./.#....#./.######./........";
+
 /// A picture of red (R), white (.) and black (#) codels of one pixel, with a stroke between rows.
 fn drawn(rows: &str) -> (Vec<Colour>, Shape) {
     let colour = |letter| match letter {
@@ -86,6 +90,35 @@ fn nodes_behind_white() {
     }
     assert_eq!(exits_of("R.#/#.R", Rust, 4), [0; 8]);
     assert_eq!(exits_of("R.#/#.R", Page, 4), [0, 0, 0, 0, LOST, LOST, 0, 0]);
+}
+
+/// A slide of edition 2 is lost where it comes back, and not at its eighth turn.
+#[test]
+fn long_slides() {
+    // nine turns, back to the block that was left
+    assert_eq!(exits_of("R.##/#.../..R#", Rust, 4), [0, 0, 0, 0, 5, 65_541, 0, 0]);
+    assert_eq!(exits_of("R.##/#.../..R#", Page, 4), [0, 0, 0, 0, 5, 65_541, 65_541, 5]);
+    // eight turns, in a run
+    assert_eq!(exits_of("R.##/#..R/...#/##.#", Rust, 0)[0], 0);
+    assert_eq!(exits_of("R.##/#..R/...#/##.#", Page, 0)[0], 5);
+    assert_eq!(run_in("R.##/#..R/...#/##.#", Rust, 1), [1, 0, 0, 0, 0, 0, 0, 0]);
+    assert_eq!(run_in("R.##/#..R/...#/##.#", Page, 1), [2, 1, 4, 0, 0, 0, 0, 0]);
+    // not the first station comes again, but a later one
+    assert_eq!(exits_of("R../##.", Page, 0), [LOST, LOST, 0, 0, 0, 0, 0, 0]);
+}
+
+#[test]
+fn the_spiral() {
+    let node = |edition| table_of(SPIRAL, edition).1.table[1][5 * 3 + 4];
+    assert_eq!((exits_of(SPIRAL, Rust, 0), node(Rust)), (vec![0; 8], 0));
+    assert_eq!(run_in(SPIRAL, Rust, 1), [1, 0, 0, 0, 0, 0, 0, 0]);
+    assert_eq!((exits_of(SPIRAL, Page, 0), node(Page)), (vec![196_612, 131_076, 0, 0, 0, 0, 0, 0], 1));
+    assert_eq!(run_in(SPIRAL, Page, 1), [2, 1, 3, 1, 1, 0, 0, 0]);
+    // with black in the middle there is no way out
+    let (entry, middle) = SPIRAL.split_at(1);
+    let closed = format!("{entry}{}", middle.replace('R', "#"));
+    assert_eq!(exits_of(&closed, Rust, 0), [0; 8]);
+    assert_eq!(exits_of(&closed, Page, 0), [LOST, LOST, 0, 0, 0, 0, 0, 0]);
 }
 
 #[test]

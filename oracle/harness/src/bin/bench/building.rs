@@ -18,27 +18,32 @@ pub fn measure() {
 }
 
 fn beside_the_rust(name: &str, side: usize, picture: &Picture) {
-    let pixels = picture.lightnesses();
-    let source = PietSource::new(&pixels, picture.height, picture.width);
-    let rust = fastest(|| CFGBuilder::new(&source, CodelSettings::Width(1), false).build());
+    let rust = rust(picture);
     let mut lent = lent(side * side);
-    let ours = fastest(|| build(picture, &mut lent));
+    let ours = fastest(|| build(picture, RUST, &mut lent));
     let costs = [rust, ours].map(|seconds| 1e9 * seconds / (side * side) as f64);
     line(&format!("build, {name}, {side} x {side}"), "ns/codel", costs, rust / ours);
 }
 
 fn alone(name: &str, picture: &Picture) {
     let mut lent = lent(picture.colours.len());
-    let ours = fastest(|| build(picture, &mut lent));
+    let ours = fastest(|| build(picture, RUST, &mut lent));
     println!("{:58}{:>14.3}", format!("build, {name}, 256 x 256, ms"), 1e3 * ours);
 }
 
-fn lent(codels: usize) -> Lent {
+/// Seconds of the Rust.
+pub fn rust(picture: &Picture) -> f64 {
+    let pixels = picture.lightnesses();
+    let source = PietSource::new(&pixels, picture.height, picture.width);
+    fastest(|| CFGBuilder::new(&source, CodelSettings::Width(1), false).build())
+}
+
+pub fn lent(codels: usize) -> Lent {
     let cells = |count: usize| vec![0; count * codels];
     Lent { map: cells(1), rows: cells(5), exits: cells(8), work: cells(1) }
 }
 
-fn build(picture: &Picture, lent: &mut Lent) {
+pub fn build(picture: &Picture, edition: u32, lent: &mut Lent) {
     let (mut answer, sides) = ([0; 2], (picture.height as usize, picture.width as usize, 1));
-    assert_eq!(library::build(&picture.colours, sides, RUST, lent, &mut answer), 0);
+    assert_eq!(library::build(&picture.colours, sides, edition, lent, &mut answer), 0);
 }

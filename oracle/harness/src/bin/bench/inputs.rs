@@ -75,6 +75,98 @@ pub fn extremes() -> Vec<(&'static str, Picture)> {
     extremes.into_iter().map(|(name, codel)| (name, picture(codel))).collect()
 }
 
+/// Right, down, left, up.
+const MOVES: [(usize, usize); 4] = [(0, 1), (1, 0), (0, usize::MAX), (usize::MAX, 0)];
+
+/// Pictures with many slides, and whether the Rust, which explores the white again for each, builds one within seconds.
+pub fn slides() -> Vec<(String, Picture, bool)> {
+    let mut all = vec![
+        ("white, 1.6% blocks".into(), scattered(16, 0), false),
+        ("white, 1.6% blocks, 3% black".into(), scattered(16, 30), false),
+        ("white, 10% blocks, 10% black".into(), scattered(100, 100), false),
+    ];
+    for apart in [8, 32] {
+        for black in [0, 5, 10, 20, 30, 40] {
+            let name = format!("rows {apart} apart, {black}% black");
+            all.push((name, coloured_rows(apart, 10 * black), (apart, black) == (32, 40)));
+        }
+    }
+    for (name, end) in [("corridor that lands", 12), ("corridor that is lost", WHITE)] {
+        all.extend([64, 128, 256].map(|side| (name.into(), corridor(side, end), side == 64)));
+    }
+    all
+}
+
+fn square(side: usize, mut colours: Vec<u8>) -> Picture {
+    colours[0] = 6;
+    Picture { height: side as u32, width: side as u32, codel: 1, colours }
+}
+
+/// White with codels of any colour and of black, so many in a thousand. By this seed the first slide of each leads on.
+fn scattered(coloured: u32, black: u32) -> Picture {
+    let (mut random, side) = (Random::seeded(SEED + 1), 256);
+    let mut codel = || match random.below(1_000) {
+        chance if chance < coloured => random.below(BLACK as u32) as u8,
+        chance if chance < coloured + black => BLACK,
+        _ => WHITE,
+    };
+    square(side, (0..side * side).map(|_| codel()).collect())
+}
+
+/// Rows so far apart and the first column are of two colours by turns, so that each of their codels is a node; between them
+/// is white, with so many in a thousand black.
+fn coloured_rows(apart: usize, black: u32) -> Picture {
+    let (mut random, side) = (Random::seeded(SEED), 256);
+    let mut codel = |row: usize, column: usize| {
+        if row % apart == 0 || column == 0 {
+            [7, 6][(row + column) % 2]
+        } else if random.below(1_000) < black {
+            BLACK
+        } else {
+            WHITE
+        }
+    };
+    square(side, (0..side * side).map(|at| codel(at / side, at % side)).collect())
+}
+
+/// A white way inward, clockwise and two codels apart, with codels of two colours by turns along its inner side. All of them
+/// are nodes, and slide to its end.
+fn corridor(side: usize, end: u8) -> Picture {
+    let (mut cells, path) = (vec![BLACK; side * side], corridor_path(side));
+    for &(at, _) in &path {
+        cells[at] = WHITE;
+    }
+    // Beside the last ones is black, so that a slide lands at the end or nowhere.
+    for &(at, way) in &path[..path.len() - 3] {
+        let (row, column) = moved((at / side, at % side), (way + 1) % 4);
+        if row < side && column < side && cells[row * side + column] == BLACK {
+            cells[row * side + column] = [7, 6][(row + column) % 2];
+        }
+    }
+    cells[path[path.len() - 1].0] = end;
+    square(side, cells)
+}
+
+/// The places of the way, each with the direction that leads to it. After the first three directions, which run along the
+/// sides, each second one is shorter by three.
+fn corridor_path(side: usize) -> Vec<(usize, usize)> {
+    let shorter = |way: usize| 3 * (way.saturating_sub(1) / 2);
+    let lengths = (0..).map(|way| (side - 1).saturating_sub(shorter(way)));
+    let (mut at, mut path) = ((0, 0), vec![(0, 0)]);
+    for (way, length) in lengths.take_while(|&length| length > 1).enumerate() {
+        for _ in 0..length {
+            at = moved(at, way % 4);
+            path.push((at.0 * side + at.1, way % 4));
+        }
+    }
+    path
+}
+
+fn moved((row, column): (usize, usize), way: usize) -> (usize, usize) {
+    let (down, right) = MOVES[way];
+    (row.wrapping_add(down), column.wrapping_add(right))
+}
+
 /// Square blocks of this size, each of one of these colours.
 fn blocks(random: &mut Random, side: usize, size: usize, colours: &[u8]) -> Vec<u8> {
     let across = side / size;

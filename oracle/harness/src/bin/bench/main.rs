@@ -11,10 +11,12 @@ mod inputs;
 mod rolling;
 #[cfg(feature = "run")]
 mod running;
+#[cfg(feature = "slide")]
+mod sliding;
 mod timing;
 
-/// The parts that this program was built for, and what ours is measured beside; the arguments name those that are
-/// measured.
+/// The parts that this program was built for, and what ours is measured beside, where a part has no heading of its own; the
+/// arguments name those that are measured.
 const PARTS: &[(&str, &str, fn())] = &[
     #[cfg(feature = "classify")]
     ("classify", "Rust", classifying::measure),
@@ -26,13 +28,15 @@ const PARTS: &[(&str, &str, fn())] = &[
     ("roll", "Rust", rolling::measure),
     #[cfg(feature = "p6")]
     ("p6", "copy", files::measure),
+    #[cfg(feature = "slide")]
+    ("slide", "", sliding::measure),
 ];
 
 fn main() {
     let asked: Vec<String> = std::env::args().skip(1).collect();
     let mut above = "";
     for (_, beside, measure) in PARTS.iter().filter(|(name, ..)| asked.iter().any(|a| a == name)) {
-        if *beside != above {
+        if !beside.is_empty() && *beside != above {
             timing::heading(beside);
         }
         above = beside;

@@ -17,7 +17,8 @@ fn refused(number: u32) -> String {
 }
 
 /// A run in the second edition is the model's, over the table of either. One in the first is the Rust's, over a table of the
-/// second too where there is no lost slide in it, as it is the same table then.
+/// second too where it is the Rust's own; where it has a long slide and no lost one, nothing else may tell the editions
+/// apart, and the model's run is that of both.
 pub fn run(job: &Job) -> Result<String, String> {
     let Job { editions: Editions { build, run }, question } = job;
     let table = |edition: u32| editions::table(&question.picture, edition);
@@ -28,9 +29,13 @@ pub fn run(job: &Job) -> Result<String, String> {
     if built.has_lost() {
         return Ok(refused(10));
     }
-    let same = table(RUST).is_some_and(|t| (t.rows, t.exits) == (built.rows, built.exits));
-    assert!(same, "tables without a lost slide are the same");
-    run_by_rust(question)
+    if table(RUST).is_some_and(|t| (t.rows, t.exits) == (built.rows.clone(), built.exits.clone())) {
+        return run_by_rust(question);
+    }
+    match built.run_by_both(question) {
+        (end, limit) if limit == question.limit => Ok(run_line(&Left::by_page(&end))),
+        _ => Err("nobody runs on in the first edition, after what it does otherwise".into()),
+    }
 }
 
 /// The Rust has to have an answer, if need be to the same question by the residue.

@@ -1,6 +1,7 @@
 //! Writes what the test programs that replay the Rust's answers, and the model's, have to print.
 mod answers;
 mod jobs;
+mod long_slides;
 mod page_jobs;
 mod page_pictures;
 mod pictures;
@@ -85,22 +86,22 @@ fn lines(file: &str) -> Result<String, String> {
     Ok(questions::read(&contents(file)?)?.into_iter().map(line).collect())
 }
 
-/// The tables of the first edition, and after them those of the second.
+/// The tables of the first edition, after them those of the second, and those with long slides in both.
 fn tables_asked() -> Vec<Asked> {
     let by = |edition: u32| move |picture| Asked { edition, picture };
     let (rust, page) = (pictures::pictures().into_iter(), page_pictures::pictures().into_iter());
-    rust.map(by(RUST)).chain(page.map(by(PAGE))).collect()
+    rust.map(by(RUST)).chain(page.map(by(PAGE))).chain(long_slides::tables()).collect()
 }
 
 fn tables(file: &str) -> Result<String, String> {
     Ok(read_all(&contents(file)?, Reader::asked)?.iter().map(answers::table).collect())
 }
 
-/// The runs of the first edition, and after them those of the second and of both.
+/// The runs of the first edition, after them those of the second and of both, and those with long slides.
 fn runs_asked() -> Vec<Job> {
     let editions = Editions { build: RUST, run: RUST };
     let rust = jobs::jobs().into_iter().map(|question| Job { editions, question });
-    rust.chain(page_jobs::jobs()).collect()
+    rust.chain(page_jobs::jobs()).chain(long_slides::jobs()).collect()
 }
 
 fn runs(file: &str) -> Result<String, String> {

@@ -66,7 +66,7 @@ pub fn lost_later() -> Vec<Picture> {
 }
 
 /// Nine turns between black walls, to the red codel in the middle.
-fn long_spiral() -> Picture {
+pub fn long_spiral() -> Picture {
     let lines = [
         "r.......", "#######.", "......#.", ".####.#.", ".#..#.#.", ".#.r#.#.", ".#.##.#.",
         ".#....#.", ".######.", "........",

@@ -120,14 +120,7 @@ pub fn apart_from_the_page() -> Vec<Picture> {
 /// A white path with so many turns to the right, between black walls, to a yellow codel; entered to
 /// the right, downward, and in codels of width 2 that the sides cut.
 pub fn spirals(turns: usize) -> [Picture; 3] {
-    let side = turns + 3;
-    let mut cells = vec![vec![18; side]; side];
-    let path = spiral_path(turns, side);
-    for &(r, c) in &path {
-        cells[r][c] = 19;
-    }
-    let (last_row, last_column) = path[path.len() - 1];
-    (cells[0][0], cells[last_row][last_column]) = (6, 7);
+    let (cells, side) = (spiral_cells(turns, 7), turns + 3);
     let scaled = |scale: usize, cell: &dyn Fn(usize, usize) -> u8| {
         let end = scale * side + 1 - scale;
         let pixels = (0..end).flat_map(|r| (0..end).map(move |c| (r / scale, c / scale)));
@@ -136,6 +129,24 @@ pub fn spirals(turns: usize) -> [Picture; 3] {
     };
     let straight = |r: usize, c: usize| cells[r][c];
     [scaled(1, &straight), scaled(1, &|r, c| cells[c][r]), scaled(2, &straight)]
+}
+
+/// The first of them, to a codel of this colour.
+pub fn spiral(turns: usize, end: u8) -> Picture {
+    let (side, colours) = (turns as u32 + 3, spiral_cells(turns, end).concat());
+    Picture { height: side, width: side, codel: 1, colours }
+}
+
+fn spiral_cells(turns: usize, end: u8) -> Vec<Vec<u8>> {
+    let side = turns + 3;
+    let mut cells = vec![vec![18; side]; side];
+    let path = spiral_path(turns, side);
+    for &(r, c) in &path {
+        cells[r][c] = 19;
+    }
+    let (last_row, last_column) = path[path.len() - 1];
+    (cells[0][0], cells[last_row][last_column]) = (6, end);
+    cells
 }
 
 /// The codels from (0,0) inward. The first three ways run along the sides, and after them each
