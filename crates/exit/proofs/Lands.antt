@@ -1,10 +1,10 @@
 -- A slide lands or it does not, whatever rule watches it, since a codel with a dp decides all that follows.
 --     lands-back    a landing by any rule is one of edition 2, by the same trail
 -- Assumes nothing.
-use mathlib.Core.Path.{_≡_, refl, sym, subst, _∙_}
+use mathlib.Core.Path.{_≡_, refl, subst}
 use mathlib.Core.Bool.{Bool, true, false, _||_}
-use mathlib.Core.List.{List, [], _∷_}
-use Prim.Native.Nat.{ℕ, zero, suc, _+_, _%_, _<_, _≤_}
+use mathlib.Core.List.{[], _∷_}
+use Prim.Native.Nat.{ℕ, suc, _+_, _%_, _<_}
 use native.Mathlib.Omega.{arith}
 use borrow.Author.Tests.{eqb-true}
 use lib.Dec.{eqb}
@@ -16,11 +16,9 @@ use Rattle.flow.specs.declared.PointerState.{PointerState}
 use Rattle.picture.specs.Picture.{Picture}
 use Rattle.exit.specs.declared.slide.Sight.{Sight}
 use Rattle.exit.specs.declared.slide.Sight.the-variants.{Shut, White, Coloured}
-use Rattle.exit.specs.declared.slide.Slid.{Slid}
-use Rattle.exit.specs.declared.slide.Slid.the-variants.{Landed, Lost}
+use Rattle.exit.specs.declared.slide.Slid.the-variants.{Landed}
 use Rattle.exit.specs.Trail.{Station, station, Trail, Rule, sameStation, occurs, comesBack}
-use Rattle.exit.specs.Slide.{lookOf, Slide, turn, move, land, Ends}
-use Rattle.exit.proofs.Only.{slide-only}
+use Rattle.exit.specs.Slide.{lookOf, Slide, turn, move, land}
 
 -- `LandsIn p r c d k`: from codel (r, c) with dp d a coloured codel is ahead after k moves and turns
 pub data LandsIn (p : Picture) : ℕ → ℕ → ℕ → ℕ → Type 0 where

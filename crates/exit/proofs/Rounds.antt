@@ -3,11 +3,10 @@
 --     rounds          from every station of the loop on it goes round
 --     lands-after     what lands in k moves and turns lands from its n-th station in n less
 -- Assumes nothing.
-use mathlib.Core.Path.{_≡_, refl, sym, ap, subst, _∙_}
-use mathlib.Core.Bool.{Bool, true, false, _||_}
-use mathlib.Core.List.{List, [], _∷_}
-use mathlib.Core.Logic.{_⊎_, inl, inr}
-use Prim.Native.Nat.{ℕ, zero, suc, _+_, _-_, _*_, _%_, _<_, _≤_}
+use mathlib.Core.Path.{_≡_, refl, sym, ap, _∙_}
+use mathlib.Core.Bool.{Bool, true, false}
+use mathlib.Core.List.{[], _∷_}
+use Prim.Native.Nat.{ℕ, zero, suc, _+_, _-_, _%_, _<_, _≤_}
 use native.Mathlib.Nat.{add-suc}
 use native.Mathlib.Numerals.{add-one}
 use native.Mathlib.Omega.{arith}
@@ -17,10 +16,9 @@ use Rattle.flow.specs.declared.PointerState.{PointerState}
 use Rattle.picture.specs.Picture.{Picture}
 use Rattle.exit.specs.declared.slide.Sight.{Sight}
 use Rattle.exit.specs.declared.slide.Sight.the-variants.{Shut, White, Coloured}
-use Rattle.exit.specs.declared.slide.Slid.{Slid}
-use Rattle.exit.specs.declared.slide.Slid.the-variants.{Landed, Lost}
+use Rattle.exit.specs.declared.slide.Slid.the-variants.{Lost}
 use Rattle.exit.specs.Trail.{Station, station, Trail, sameStation, occurs, comesBack}
-use Rattle.exit.specs.Slide.{lookOf, Slide, lost, turn, move, land, Ends, looksOf}
+use Rattle.exit.specs.Slide.{lookOf, Slide, lost, turn, move, looksOf}
 use Rattle.exit.proofs.Lands.{Lands, ahead, turned, moved, same-stations}
 
 -- the station after one look; the same where a coloured codel is ahead

@@ -3,10 +3,10 @@
 --     page-slide-short    within four looks for each codel of the picture
 --     never-lost          where no landing comes, it is lost
 -- Assumes nothing.
-use mathlib.Core.Path.{_≡_, refl, sym, subst, _∙_}
-use mathlib.Core.Bool.{Bool, true, false, cond, _&&_, _||_}
+use mathlib.Core.Path.{_≡_, refl, sym, _∙_}
+use mathlib.Core.Bool.{Bool, true, false, cond}
 use mathlib.Core.List.{List, [], _∷_}
-use Prim.Native.Nat.{ℕ, zero, suc, _+_, _*_, _/_, _%_, _<_, _≤_}
+use Prim.Native.Nat.{ℕ, zero, suc, _+_, _*_, _<_, _≤_}
 use native.Mathlib.Omega.{arith}
 use borrow.Author.Tests.{eqb-true, eq-eqb}
 use lib.Arith.{digits-lt, digits-div, digits-mod}
@@ -25,7 +25,7 @@ use Rattle.exit.specs.declared.slide.Slid.the-variants.{Landed, Lost}
 use Rattle.exit.specs.Trail.{Station, station, Trail, sameStation, occurs, comesBack}
 use Rattle.exit.specs.Slide.{lookOf, Slide, lost, turn, move, land, Ends, looksOf}
 use Rattle.exit.proofs.SlideLaws.{white-inside}
-use Rattle.exit.proofs.Lands.{LandsIn, Later, lands-again, lands-with}
+use Rattle.exit.proofs.Lands.{LandsIn, lands-again, lands-with}
 use Rattle.exit.proofs.Lands as landings
 
 pub record OnGrid (p : Picture) (a : Station) : Type 0 where

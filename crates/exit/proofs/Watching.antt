@@ -17,7 +17,7 @@ use Rattle.exit.specs.declared.slide.Slid.the-variants.{Landed, Lost}
 use Rattle.exit.specs.declared.page_slide.Watch.{Watch}
 use Rattle.exit.specs.Trail.{Station, station, Trail, neverLost, comesBack}
 use Rattle.exit.specs.Slide.{lookOf, Slide, turn, move, land, Ends, looksOf}
-use Rattle.exit.specs.Watched.{Met, Noted, here, still, Walks}
+use Rattle.exit.specs.Watched.{begunAt, Met, Noted, here, still, Walks}
 use Rattle.exit.proofs.SlideLaws.{white-inside}
 use Rattle.exit.proofs.Lands.{Lands, lands-only, after-turn, after-move, lands-again, lands-back}
 use Rattle.exit.proofs.Stations.{page-slide-total, page-slide-short, lands-soon, never-lost}
@@ -46,7 +46,7 @@ pub record Hunting (p : Picture) (a : Station) (w : Watch) (b : Station) : Type 
   pub few : (m l : ℕ) → Loop p a m l → at ≤ 2 * (m + l)
 
 hunt-begins : {p : Picture} (r c : ℕ) (s : PointerState)
-    → Hunting p (station r c s) (record { row = r; col = c; dp = s .dp; looks = 0; next = 1 }) (station r c s)
+    → Hunting p (station r c s) (begunAt r c (s .dp)) (station r c s)
 unfolding after
 hunt-begins r c s =
     record {
@@ -145,9 +145,9 @@ pub record Watching (p : Picture) (r₀ c₀ : ℕ) (s₀ : PointerState) (r c :
   pub hunt : Hunting p (station r₀ c₀ s₀) w (station r c s)
 
 pub watch-begins : {p : Picture} {r c : ℕ} {s : PointerState} → Inside p r c → Valid s
-    → Watching p r c s r c s (record { row = r; col = c; dp = s .dp; looks = 0; next = 1 })
-watch-begins {r = r} {c = c} {s = s} i v =
-    record {
+    → {w : Watch} → w ≡ begunAt r c (s .dp) → Watching p r c s r c s w
+watch-begins {p} {r} {c} {s} i v q =
+    subst (Watching p r c s r c s) (sym q) (record {
       begin = i;
       began = v;
       place = i;
@@ -157,7 +157,7 @@ watch-begins {r = r} {c = c} {s = s} i v =
       rest = λ t o d. d;
       ahead = λ k l. omega arith;
       hunt = hunt-begins r c s;
-    }
+    })
 
 module _ {p : Picture} {r₀ c₀ : ℕ} {s₀ : PointerState} {r c : ℕ} {s : PointerState} {w : Watch} (S : Watching p r₀ c₀ s₀ r c s w) where
   -- what lands lands from here in so much less

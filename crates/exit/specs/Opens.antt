@@ -1,4 +1,4 @@
--- What an attempt of a region comes to, by walking codels (rules 4.2 to 4.4, 5.1 to 5.4, 16.6). A region is named by its number
+-- What an attempt of a region comes to, by walking codels (rules 4.2 to 4.4, 5.1 to 5.4, 16.6, 16.8). A region is named by its number
 -- in `map`, the numbering of the picture's regions by first codels, which the picture determines. Assumes nothing.
 use mathlib.Core.List.{List}
 use Prim.Native.Nat.{ℕ, _/_, _%_}

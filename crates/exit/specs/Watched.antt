@@ -8,6 +8,10 @@ use Rattle.exit.specs.declared.page_slide.Walked.{Walked}
 use Rattle.exit.specs.Trail.{comesBack}
 use Rattle.exit.specs.Slide.{Ends, looksOf}
 
+-- the watch of a slide that begins at (r, c) with dp d: that station is kept
+abbrev pub begunAt : ℕ → ℕ → ℕ → Watch
+begunAt r c d = record { row = r; col = c; dp = d; looks = 0; next = 1 }
+
 -- the kept station, of some looks ago, was this one
 pub record Met (w : Watch) (r c d : ℕ) : Type 0 where
   pub some : 0 < w .looks
@@ -20,9 +24,9 @@ pub data Noted (w : Watch) (r c d : ℕ) : Watch → Type 0 where
   here : w .looks ≡ w .next → Noted w r c d (record { row = r; col = c; dp = d; looks = w .looks + 1; next = 2 * w .next })
   still : (w .looks ≡ w .next → ⊥) → Noted w r c d (record { row = w .row; col = w .col; dp = w .dp; looks = w .looks + 1; next = w .next })
 
--- what no watch comes to: three looks for each station of the largest grid
-abbrev pub manyLooks : ℕ
-manyLooks = 3 * (4 * 65536)
+-- no slide takes more: three looks for each station of the largest grid
+abbrev pub mostLooks : ℕ
+mostLooks = 3 * (4 * 65536)
 
 -- edition 2's slide ends as told, and the code looks at most three times as often as the slide itself
 pub record Walks (p : Picture) (r c : ℕ) (s : PointerState) (x : Walked) : Type 0 where

@@ -6,7 +6,7 @@ ghost use Rattle.flow.specs.Pointer.{Valid};
 ghost use Rattle.picture.specs.Picture.{pictureOf, Frames, Inside};
 ghost use Rattle.exit.specs.Slide.{Ends};
 ghost use Rattle.exit.specs.Trail.{comesBack};
-ghost use Rattle.exit.specs.Watched.{Met, Noted, manyLooks, Walks};
+ghost use Rattle.exit.specs.Watched.{begunAt, Met, Noted, mostLooks, Walks};
 use crate::slide::Sight;
 use crate::slide::Slid;
 use flow::PointerState;
@@ -30,6 +30,19 @@ struct Walked {
     looks: usize,
 }
 
+// The watch of a slide at its beginning: its first station is kept.
+fn begun(row: usize, col: usize, dp: u8) -> Watch
+    ensures { λ r. ⌜ r ≡ begunAt row col dp ⌝ }
+{
+    Watch {
+        row,
+        col,
+        dp,
+        looks: 0,
+        next: 1,
+    }
+}
+
 // Whether the kept station is met again.
 fn meets(w: Watch, row: usize, col: usize, dp: u8) -> bool
     ensures { λ r. ⌜ Decides (Met w row col dp) r ⌝ }
@@ -51,7 +64,7 @@ fn meets(w: Watch, row: usize, col: usize, dp: u8) -> bool
 
 // The watch after one more look, from the station given.
 fn noted(w: Watch, row: usize, col: usize, dp: u8) -> Watch
-    requires { ⌜ (w .looks ≤ manyLooks) × (w .next ≤ 2 * manyLooks + 1) ⌝ }
+    requires { ⌜ (w .looks ≤ mostLooks) × (w .next ≤ 2 * mostLooks + 1) ⌝ }
     ensures { λ r. ⌜ Noted w row col dp r ⌝ }
 {
     let looks = w.looks + 1;
@@ -82,13 +95,7 @@ fn walk(colours: &[u8], s: Shape, row: usize, col: usize, from: PointerState) ->
     let mut at_row = row;
     let mut at_col = col;
     let mut state = from;
-    let mut watch = Watch {
-        row,
-        col,
-        dp: from.dp,
-        looks: 0,
-        next: 1,
-    };
+    let mut watch = begun(row, col, from.dp);
     'slide: loop {
         let dp = state.dp;
         if meets(watch, at_row, at_col, dp) {

@@ -28,7 +28,7 @@ pub fn build(grid: &Grid) -> Option<Table> {
     table(Regions::of(grid, false))
 }
 
-/// The same with long slides lost, as they are in the first edition: its table, but that it has no exits for lost slides.
+/// The same with long slides lost, as in the first edition. That has this table, but with 0 for the exits of lost slides.
 pub fn build_short(grid: &Grid) -> Option<Table> {
     table(Regions::of(grid, true))
 }

@@ -1,7 +1,7 @@
 -- `exit::page_slide::walk` meets its contract. The invariant: however the slide goes on, so the whole slide ends, and the kept
 -- station was not met since it was kept (`Watching`). The measure: the looks that are left of three for each station of the grid.
 -- Assumes nothing.
-use mathlib.Core.Path.{_≡_, sym, subst, _∙_}
+use mathlib.Core.Path.{sym, subst, _∙_}
 use Prim.Native.Nat.{_+_, _*_, _-_}
 use native.Mathlib.Omega.{arith}
 use borrow.Author.Needs.{needs}
@@ -20,7 +20,12 @@ abbrev μ-slide : tie.MeasureT-slide
     3 * (4 * codels (pictureOf colours s)) + 1 - watch .looks
 
 slide-holds : tie.Need-slide-holds Inv-slide μ-slide
-slide-holds c = watch-begins (c .before .pre .1) (c .before .pre .2)
+slide-holds c =
+    let start = c .before .before in
+    watch-begins (start .pre .1) (start .pre .2) (c .begun .ensures)
+
+begun-requires : tie.Need-begun-requires Inv-slide μ-slide
+begun-requires c κs = search needs
 
 meets-requires : tie.Need-meets-requires Inv-slide μ-slide
 meets-requires c κs = search needs
@@ -28,11 +33,11 @@ meets-requires c κs = search needs
 noted-requires : tie.Need-noted-requires Inv-slide μ-slide
 noted-requires c κs =
     let S = c .before .before .slide .inv in
-    let few = c .before .before .before .before .pre .0 .sound .few in
+    let few = c .before .before .before .before .before .pre .0 .sound .few in
     (omega (arith, looks-most S, few), omega (arith, next-most S, few))
 
 look-requires : tie.Need-look-requires Inv-slide μ-slide
-look-requires c κs = (c .before .before .before .before .before .pre .0, c .before .before .before .slide .inv .place)
+look-requires c κs = (c .before .before .before .before .before .before .pre .0, c .before .before .before .slide .inv .place)
 
 enum-told : tie.Need-enum-told Inv-slide μ-slide
 enum-told c = search needs
@@ -84,6 +89,7 @@ walk-spec =
     (tie.spec
     Inv-slide
     μ-slide
+    begun-requires
     slide-holds
     meets-requires
     noted-requires

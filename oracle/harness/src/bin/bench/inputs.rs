@@ -9,6 +9,9 @@ const SEED: u64 = 7;
 const BLACK: u8 = 18;
 const WHITE: u8 = 19;
 
+/// Right, down, left, up.
+const MOVES: [(usize, usize); 4] = [(0, 1), (1, 0), (0, usize::MAX), (usize::MAX, 0)];
+
 /// Known pixels of a square picture, and its side.
 pub fn pixels() -> (Vec<[u8; 3]>, usize) {
     let (mut random, palette) = (Random::seeded(SEED), palette());
@@ -75,10 +78,7 @@ pub fn extremes() -> Vec<(&'static str, Picture)> {
     extremes.into_iter().map(|(name, codel)| (name, picture(codel))).collect()
 }
 
-/// Right, down, left, up.
-const MOVES: [(usize, usize); 4] = [(0, 1), (1, 0), (0, usize::MAX), (usize::MAX, 0)];
-
-/// Pictures with many slides, and whether the Rust, which explores the white again for each, builds one within seconds.
+/// Pictures with many slides, and whether the Rust builds one within seconds.
 pub fn slides() -> Vec<(String, Picture, bool)> {
     let mut all = vec![
         ("white, 1.6% blocks".into(), scattered(16, 0), false),

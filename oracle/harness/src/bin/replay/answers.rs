@@ -29,7 +29,7 @@ pub fn run(job: &Job) -> Result<String, String> {
     if built.has_lost() {
         return Ok(refused(10));
     }
-    if table(RUST).is_some_and(|t| (t.rows, t.exits) == (built.rows.clone(), built.exits.clone())) {
+    if table(RUST).is_some_and(|own| own.rows == built.rows && own.exits == built.exits) {
         return run_by_rust(question);
     }
     match built.run_by_both(question) {
