@@ -8,7 +8,7 @@ use harness::page::{build, build_short, Parting};
 use harness::paint::drawn;
 use harness::picture::Picture;
 use harness::question::Question;
-use harness::random::Random;
+use harness::random::{Random, BLACK, WHITE};
 
 const SEED: u64 = 18;
 const BY_CHANCE: usize = 4;
@@ -18,8 +18,6 @@ const LONGEST: u32 = 14;
 const MOST_PIXELS: usize = 80;
 
 const YELLOW: u8 = 7;
-const BLACK: u8 = 18;
-const WHITE: u8 = 19;
 
 /// By the second edition, and after them, by the first, those of which it has another table.
 pub fn tables() -> Vec<Asked> {
