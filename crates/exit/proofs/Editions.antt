@@ -128,13 +128,14 @@ module _ {p : Picture} {r c : ℕ} {s : PointerState} (i : Inside p r c) (v : Va
       let (w″, z, q) = beside x in
       subst (Ways p s w) (attempt-only z y) q
 
--- what is open in edition 1 is open in edition 2, and leads to the same
+-- where an attempt of edition 1 lands, that of edition 2 does
 pub glide-both : {p : Picture} {r c x y a b : ℕ} {s t : PointerState} → Attempt Rust p r c s (Glide x y a b t) → Attempt Page p r c s (Glide x y a b t)
 glide-both (glide q d) = glide q (lands-both d)
 
 step-both : {p : Picture} {r c a b : ℕ} {s : PointerState} → Attempt Rust p r c s (Step a b) → Attempt Page p r c s (Step a b)
 step-both (step q) = step q
 
+-- what is open in edition 1 is open in edition 2, and leads to the same
 pub opens-both : {p : Picture} {map : List ℕ} {r target i : ℕ} {q u : PointerState} → Opens Rust p map r q target u i → Opens Page p map r q target u i
 opens-both (opens.beside t) = opens.beside (record { codel = t .codel; leaves = t .leaves; way = step-both (t .way) })
 opens-both (opens.across t) = opens.across (record { codel = t .codel; leaves = t .leaves; way = glide-both (t .way) })
