@@ -15,17 +15,22 @@ const MODELLED: usize = 100_000;
 const BUILT: usize = 300_000;
 const RUN: usize = 100_000;
 const PICTURED: usize = 100_000;
+const LARGE: usize = 2_000;
 const LONGEST: u32 = 21;
+const LONGEST_OF_LARGE: u32 = 100;
 const MOST_STEPS: u32 = 60;
 
 pub fn compare() -> Checked {
     let (mut random, palette) = (Random::seeded(SEED), palette());
     let modelled = (0..MODELLED).map(|_| Modelled(question(&mut random)));
     let mut counts = check("slide, the model itself", modelled)?;
-    counts = counts.and(check("slide, build", (0..BUILT).map(|_| building(&mut random)))?);
+    let built = (0..BUILT).map(|_| building(&mut random, LONGEST));
+    counts = counts.and(check("slide, build", built)?);
     counts = counts.and(check("slide, run", (0..RUN).map(|_| running(&mut random)))?);
     let pictured = (0..PICTURED).map(|_| picturing(&mut random, &palette));
-    Ok(counts.and(check("slide, picture", pictured)?))
+    counts = counts.and(check("slide, picture", pictured)?);
+    let large = (0..LARGE).map(|_| building(&mut random, LONGEST_OF_LARGE));
+    Ok(counts.and(check("slide, build, large", large)?))
 }
 
 fn question(random: &mut Random) -> Question {
@@ -34,8 +39,8 @@ fn question(random: &mut Random) -> Question {
     Question { limit, ..running::question(random, picture) }
 }
 
-fn building(random: &mut Random) -> Building {
-    let Picture { height, width, codel, colours } = random.white_ways(LONGEST);
+fn building(random: &mut Random, longest: u32) -> Building {
+    let Picture { height, width, codel, colours } = random.white_ways(longest);
     let more = [(); 4].map(|()| random.below(4) as usize);
     let case = Building::roomy(height as usize, width as usize, codel as usize, colours, more);
     Building { edition: PAGE, ..case }
@@ -49,7 +54,7 @@ fn running(random: &mut Random) -> Running {
 }
 
 fn picturing(random: &mut Random, palette: &Palette) -> Picturing {
-    let building = building(random);
+    let building = building(random, LONGEST);
     let mut case = picturing::with_a_run(random, building, palette);
     case.question.limit = random.below(MOST_STEPS + 1) as u64;
     case
