@@ -62,10 +62,10 @@ enum piet_refusal {
  * two differ in these:
  *
  *                      PIET_EDITION_RUST                         PIET_EDITION_PAGE
- *   a slide over       at its eighth turn                        where it comes to a codel with a dp that it had there
+ *   when a slide over  at its eighth turn                        where it comes to a codel with a dp that it had there
  *   white is lost                                                before, by a move or a turn
- *   a lost slide       its attempt is not open, exit 0: the      its exit is PIET_EXIT_LOST: where no attempt before
- *   over white         next of the eight is tried                it is open, the run is completed without a step
+ *   what a lost slide  its attempt is not open, exit 0: the      its exit is PIET_EXIT_LOST: where no attempt before
+ *   does               next of the eight is tried                it is open, the run is completed without a step
  *   Div, Mod by 0      both values are gone                      the stack stays as it was
  *   Mod                b modulo the absolute value of a, never   b - a x floor(b / a): 0, or of a's sign
  *                      negative; by -2^63 both are gone

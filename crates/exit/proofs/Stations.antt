@@ -1,7 +1,7 @@
 -- A grid has four stations a codel, so a trail on which none comes twice is no longer than that: edition 2's slide ends.
 --     page-slide-total    every slide from a codel of the grid ends
 --     page-slide-short    within four looks for each codel of the picture
---     never-lost          where no landing comes, it is lost
+--     no-landing-lost     where no landing comes, it is lost
 -- Assumes nothing.
 use mathlib.Core.Path.{_≡_, refl, sym, _∙_}
 use mathlib.Core.Bool.{Bool, true, false, cond}
@@ -156,8 +156,8 @@ lands-soon {p} {s = s} i v l =
     omega (arith, n)
 
 -- and where no landing comes edition 2's slide is lost
-pub never-lost : {p : Picture} {r c : ℕ} {s : PointerState} → Inside p r c → Valid s → ((k : ℕ) → LandsIn p r c (s .dp) k → ⊥) → Ends p comesBack r c s Lost
-never-lost {p} {r} {c} {s} i v never = by-end (page-slide-total p r c s i v)
+pub no-landing-lost : {p : Picture} {r c : ℕ} {s : PointerState} → Inside p r c → Valid s → ((k : ℕ) → LandsIn p r c (s .dp) k → ⊥) → Ends p comesBack r c s Lost
+no-landing-lost {p} {r} {c} {s} i v never = by-end (page-slide-total p r c s i v)
   where
     by-end : (o : Slid) × Ends p comesBack r c s o → Ends p comesBack r c s Lost
     by-end (Landed a b u, x) = let (k, l, f) = lands-again (x .slides) in absurd (never k l)

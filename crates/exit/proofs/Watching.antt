@@ -20,7 +20,7 @@ use Rattle.exit.specs.Slide.{lookOf, Slide, turn, move, land, Ends, look
 use Rattle.exit.specs.Watched.{begunAt, Met, Noted, here, still, Walks}
 use Rattle.exit.proofs.SlideLaws.{white-inside}
 use Rattle.exit.proofs.Lands.{Lands, lands-only, after-turn, after-move, lands-again, lands-back}
-use Rattle.exit.proofs.Stations.{page-slide-total, page-slide-short, lands-soon, never-lost}
+use Rattle.exit.proofs.Stations.{page-slide-total, page-slide-short, lands-soon, no-landing-lost}
 use Rattle.exit.proofs.Rounds.{onward, after, onward-turn, onward-move, after-more, Loop, rounds, lost-rounds, lands-after}
 
 abbrev pub keptOf : Watch → Station
@@ -177,7 +177,7 @@ module _ {p : Picture} {r₀ c₀ : ℕ} {s₀ : PointerState} {r c : ℕ} {s : 
 
   pub met-again : Met w r c (s .dp) → Walks p r₀ c₀ s₀ (record { end = Lost; looks = w .looks })
   met-again m =
-      let x = never-lost (S .begin) (S .began) (none-lands m) in
+      let x = no-landing-lost (S .begin) (S .began) (none-lands m) in
       let (m, l, o, q) = lost-rounds (x .slides) in
       record { ends = x; cheap = omega (arith, looks-few (S .hunt) m l o, q) }
 

@@ -8,7 +8,7 @@ use Rattle.base.specs.declared.edition.Edition.{Edition}
 use Rattle.base.specs.Edition.{byEdition}
 use Rattle.flow.specs.declared.PointerState.{PointerState}
 
--- a codel with a dp: what decides all that follows; cc has no part in it
+-- a codel with a dp: what decides where a slide goes on; cc has no part in that, and goes along
 pub record Station : Type 0 where
   pub row : ℕ
   pub col : ℕ

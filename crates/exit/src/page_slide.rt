@@ -13,7 +13,7 @@ use flow::PointerState;
 use picture::shape::Shape;
 
 // One station of the slide that is kept, how many looks were taken, and the count of looks at which the present station
-// is kept in its place: the powers of two (Brent). Once a power is no less than the way to the loop and the loop, the
+// is kept in its place: the powers of two (Brent). Once a power is no less than the way to the loop, nor than the loop, the
 // kept station is met again after one round: so there is no record of stations, and a lost slide takes at most three
 // times as many looks as there are stations on it.
 struct Watch {
@@ -86,7 +86,7 @@ fn noted(w: Watch, row: usize, col: usize, dp: u8) -> Watch
     }
 }
 
-// The slide from a white codel, watched. A codel with a dp decides all that follows, so a slide that meets a station
+// The slide from a white codel, watched. A codel with a dp decides where it goes on, so a slide that meets a station
 // again never lands, and one that never lands meets the kept station again: that is what ends the loop.
 fn walk(colours: &[u8], s: Shape, row: usize, col: usize, from: PointerState) -> Walked
     requires { ⌜ Frames (now colours) s × Inside (pictureOf (now colours) s) row col × Valid from ⌝ }

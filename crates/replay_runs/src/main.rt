@@ -1,7 +1,8 @@
-// Replays stored runs, of the Rust in edition 1, with a model's counts of skipped lines, and of a model in edition 2: `stdin`
-// holds questions, each the edition of the building and that of the run, a byte each, a picture, then the limit in four bytes,
-// the mode, the stack's room and the output's room, a byte each, the input's length in two, the lower first, and the input;
-// `stdout` has a line for each: the run's twelve numbers, the stack from its top, and a kind and a value for each output.
+// Replays stored runs, of the Rust in edition 1, with a model's counts of skipped lines, and of a model in edition 2 and over
+// tables of edition 2 with long slides: `stdin` holds questions, each the edition of the building and that of the run, a byte
+// each, a picture, then the limit in four bytes, the mode, the stack's room and the output's room, a byte each, the input's
+// length in two, the lower first, and the input; `stdout` has a line for each: the run's twelve numbers, the stack from its
+// top, and a kind and a value for each output.
 ghost use Prim.Native.Nat.{_≤_};
 ghost use lib.ListN.{length};
 use cfg::Built;

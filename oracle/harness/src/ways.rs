@@ -11,7 +11,8 @@ type Place = (usize, usize);
 const NEVER: u32 = u32::MAX;
 
 impl Random {
-    /// Pixel sides up to the longest, which is at least 12, codel width 1 to 3; pixel (0,0) is not white.
+    /// Pixel sides up to the longest, which is at least 12, and a codel more in height; codel width 1 to 3; pixel (0,0) is not
+    /// white.
     pub fn white_ways(&mut self, longest: u32) -> Picture {
         let codel = self.codel();
         let longest = (longest / codel) as usize;

@@ -1,4 +1,4 @@
-//! Slides that turn eight times or more: pictures and runs in both editions, after all others.
+//! Slides about their eighth turn and after it, and lost ones: pictures and runs in both editions, after all others.
 use crate::jobs::question;
 use crate::page_pictures::long_spiral;
 use crate::pictures::spiral;
