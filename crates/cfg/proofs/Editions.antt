@@ -2,10 +2,10 @@
 --     same-table      map and count of regions are the same, and so are the rows but for their marks
 --     found-both      what is found in edition 1 is found in edition 2, so that a node of 1 is one of 2
 --     marks-grow      and its mark stays
---     new-found       what is found in edition 2 alone is found from where a slide lands after its eighth turn, a slide of a region
---                     that is found in edition 1
+--     new-found       what is found in edition 2 alone is found from where a long slide lands, one of a region that is found in
+--                     edition 1; a slide is long that lands after its eighth turn
 --     exits-beside    an exit of edition 2 is that of edition 1; or there it is 0, and here it is that of a lost slide, the one to
---                     where a slide lands after its eighth turn, or that of an open attempt of a node of edition 2 alone
+--                     where a long slide lands, or that of an open attempt of a node of edition 2 alone
 --     same-exit       so where edition 1 has an exit, edition 2 has the same one
 --     lost-exits      edition 2 has 9,437,185 at the lost slides of nodes, and nowhere else
 --     lost-shut       where it has that, edition 1 has 0
@@ -36,15 +36,15 @@ use Rattle.exit.specs.Slide.{Ends}
 use Rattle.exit.specs.Attempt.{Attempt}
 use Rattle.exit.specs.Opens.{regionAt, Tried, Opens, beside, across, Stuck}
 use Rattle.exit.proofs.Opening.{same-codel, rust-unstuck}
-use Rattle.exit.proofs.Editions.{Ways, same, late, attempt-total, ways-beside, opens-both}
+use Rattle.exit.proofs.Editions.{Ways, same, long, attempt-total, ways-beside, opens-both}
 use Rattle.cfg.specs.Nodes as nodes
 use Rattle.cfg.specs.Nodes.{Adds, astray, landing, Found, entry, next, Node}
 use Rattle.cfg.specs.Table.{Marks, is, none, Exit, no-node, shut, leads, stuck, Builds}
 use Rattle.cfg.proofs.Leads.{open-fits, exit-fits}
 use Rattle.cfg.proofs.TableLaws.{one-exit, same-map, over-map, withMark, row-but-mark}
 
--- region r's attempt in the state q is a slide that is lost at its eighth turn in edition 1, and lands after it in edition 2
-pub record Late (p : Picture) (map : List ℕ) (r : ℕ) (q : PointerState) : Type 0 where
+-- region r's attempt in the state q is a long slide: lost at its eighth turn in edition 1, it lands after it in edition 2
+pub record Long (p : Picture) (map : List ℕ) (r : ℕ) (q : PointerState) : Type 0 where
   pub row : ℕ
   pub col : ℕ
   pub to-row : ℕ
@@ -55,32 +55,23 @@ pub record Late (p : Picture) (map : List ℕ) (r : ℕ) (q : PointerState) : Ty
   pub slide : Ends p comesBack row col q (Landed to-row to-col state)
   pub turned : mostTurns ≤ turnsOf (slide .trail)
 
--- what edition 2 finds from region a on
-pub data From (p : Picture) (map : List ℕ) (a : ℕ) : ℕ → Type 0 where
-  here : From p map a a
-  on : {r q : ℕ} {s : PointerState} {w : Way} → From p map a r → Valid s → Tried Page p map r s w → Adds p map w q → From p map a q
-
--- region r is found from where such a slide lands, one of a region that is found in edition 1
-pub record Through (p : Picture) (map : List ℕ) (r : ℕ) : Type 0 where
-  pub region : ℕ
-  pub pointers : PointerState
-  pub found : Found Rust p map region
-  pub valid : Valid pointers
-  pub late : Late p map region pointers
-  pub from : From p map (regionAt p map (late .to-row) (late .to-col)) r
+-- the region where such a slide of a region that is found in edition 1 lands, and what edition 2 finds from there on
+pub data Through (p : Picture) (map : List ℕ) : ℕ → Type 0 where
+  lands : {r : ℕ} {q : PointerState} → Found Rust p map r → Valid q → (x : Long p map r q) → Through p map (regionAt p map (x .to-row) (x .to-col))
+  goes-on : {r q : ℕ} {s : PointerState} {w : Way} → Through p map r → Valid s → Tried Page p map r s w → Adds p map w q → Through p map q
 
 -- an exit of region r in the state q, in edition 1 and in edition 2
 pub data Beside (p : Picture) (map : List ℕ) (r : ℕ) (q : PointerState) : ℕ → ℕ → Type 0 where
   as-before : {x : ℕ} → Beside p map r q x x
   lost-slide : Stuck p map r q Page → Beside p map r q 0 lostSlide
-  late-slide : (x : Late p map r q) → Beside p map r q 0 (exitNumber (regionAt p map (x .to-row) (x .to-col)) (stateNumber (x .state)) instruction.none)
+  long-slide : (x : Long p map r q) → Beside p map r q 0 (exitNumber (regionAt p map (x .to-row) (x .to-col)) (stateNumber (x .state)) instruction.none)
   new-node : {target i : ℕ} {u : PointerState} → (Node Rust p map r → ⊥) → Node Page p map r → Opens Page p map r q target u i
       → Beside p map r q 0 (exitNumber target (stateNumber u) i)
 
 -- such a slide, from the attempts of the two editions
-abbrev late-of : {p : Picture} {map : List ℕ} {r x y a b : ℕ} {q u : PointerState} → Tried Rust p map r q (Astray x y) → Tried Page p map r q (Glide x y a b u)
-    → (d : Ends p comesBack x y q (Landed a b u)) → mostTurns ≤ turnsOf (d .trail) → Late p map r q
-late-of {x = x} {y = y} {a = a} {b = b} {u = u} t t′ d h =
+abbrev long-of : {p : Picture} {map : List ℕ} {r x y a b : ℕ} {q u : PointerState} → Tried Rust p map r q (Astray x y) → Tried Page p map r q (Glide x y a b u)
+    → (d : Ends p comesBack x y q (Landed a b u)) → mostTurns ≤ turnsOf (d .trail) → Long p map r q
+long-of {x = x} {y = y} {a = a} {b = b} {u = u} t t′ d h =
     record { row = x; col = y; to-row = a; to-col = b; state = u; lost = t; lands = t′; slide = d; turned = h }
 
 module _ {p : Picture} {map : List ℕ} (S : Sound p) (l : length map ≡ codels p) where
@@ -98,7 +89,7 @@ module _ {p : Picture} {map : List ℕ} (S : Sound p) (l : length map ≡ codels
   -- what edition 1's way adds, edition 2's adds
   adds-both : {s : PointerState} {w w′ : Way} {r : ℕ} → Ways p s w w′ → Adds p map w r → Adds p map w′ r
   adds-both same a = a
-  adds-both (late d d′ h) astray = nodes.over
+  adds-both (long d d′ h) astray = nodes.over
 
   pub found-both : {r : ℕ} → Found Rust p map r → Found Page p map r
   found-both entry = entry
@@ -115,31 +106,31 @@ module _ {p : Picture} {map : List ℕ} (S : Sound p) (l : length map ≡ codels
     where
       by-ways : {w w′ : Way} {z : ℕ} → Found Rust p map r → Tried Rust p map r s w → Tried Page p map r s w′ → Ways p s w w′ → Adds p map w′ z → Found Rust p map z ⊎ Through p map z
       by-ways g u t same a = inl (next g v u a)
-      by-ways g u t (late d d′ h) nodes.over = inl (next g v u astray)
-      by-ways g u t (late d d′ h) landing = inr (record { region = r; pointers = s; found = g; valid = v; late = late-of u t d′ h; from = here })
+      by-ways g u t (long d d′ h) nodes.over = inl (next g v u astray)
+      by-ways g u t (long d d′ h) landing = inr (lands g v (long-of u t d′ h))
 
       by-source : Found Rust p map r ⊎ Through p map r → Found Rust p map q ⊎ Through p map q
       by-source (inl g) =
           let (w, u) = tried-in Rust v t in
           by-ways g u t (ways-of v u t) a
-      by-source (inr x) = inr (record { region = x .region; pointers = x .pointers; found = x .found; valid = x .valid; late = x .late; from = on (x .from) v t a })
+      by-source (inr x) = inr (goes-on x v t a)
 
-  -- an attempt that is open in edition 2 alone is a late slide
-  opens-late : {r target i : ℕ} {q u : PointerState} → Valid q → ((u′ : PointerState) (t j : ℕ) → Opens Rust p map r q t u′ j → ⊥)
+  -- an attempt that is open in edition 2 alone is a long slide
+  opens-long : {r target i : ℕ} {q u : PointerState} → Valid q → ((u′ : PointerState) (t j : ℕ) → Opens Rust p map r q t u′ j → ⊥)
       → Opens Page p map r q target u i → Beside p map r q 0 (exitNumber target (stateNumber u) i)
-  opens-late {r = r} {q = q} v never (beside {a = a} {b = b} t) =
+  opens-long {r = r} {q = q} v never (beside {a = a} {b = b} t) =
       let (w, u) = tried-in Rust v t in
       by-ways u (ways-of v u t)
     where
       by-ways : {w : Way} {x : ℕ} → Tried Rust p map r q w → Ways p q w (Step a b) → Beside p map r q 0 x
       by-ways u same = absurd (never _ _ _ (beside u))
-  opens-late {r = r} {q = q} v never (across {a = a} {b = b} {c = c} {d = d} {u = z} t) =
+  opens-long {r = r} {q = q} v never (across {a = a} {b = b} {c = c} {d = d} {u = z} t) =
       let (w, u) = tried-in Rust v t in
       by-ways u (ways-of v u t)
     where
       by-ways : {w : Way} → Tried Rust p map r q w → Ways p q w (Glide a b c d z) → Beside p map r q 0 (exitNumber (regionAt p map c d) (stateNumber z) instruction.none)
       by-ways u same = absurd (never _ _ _ (across u))
-      by-ways u (late x y h) = late-slide (late-of u t y h)
+      by-ways u (long x y h) = long-slide (long-of u t y h)
 
   -- the exit of edition 2 beside that of edition 1
   exit-beside : {r x y : ℕ} {q : PointerState} → Valid q → Exit Rust p map r q x → Exit Page p map r q y → Beside p map r q x y
@@ -149,7 +140,7 @@ module _ {p : Picture} {map : List ℕ} (S : Sound p) (l : length map ≡ codels
   exit-beside v (no-node a) (stuck b t) = lost-slide t
   exit-beside v (shut a s) (no-node b) = as-before
   exit-beside v (shut a s) (shut b t) = as-before
-  exit-beside v (shut a s) (leads b o) = opens-late v (λ u t i x. s .never t u i x) o
+  exit-beside v (shut a s) (leads b o) = opens-long v (λ u t i x. s .never t u i x) o
   exit-beside v (shut a s) (stuck b t) = lost-slide t
   exit-beside {r} {q = q} v (leads {target = t} {i = i} {u = u} a o) y =
       subst (Beside p map r q _) (one-exit (cols-pos S) l v (leads (node-both a) (opens-both o)) y) as-before
@@ -172,13 +163,13 @@ module _ {p : Picture} {map : List ℕ} {r : ℕ} {q : PointerState} where
   kept : {x y : ℕ} → Beside p map r q x y → (x ≡ 0 → ⊥) → y ≡ x
   kept as-before d = refl
   kept (lost-slide s) d = absurd (d refl)
-  kept (late-slide t) d = absurd (d refl)
+  kept (long-slide t) d = absurd (d refl)
   kept (new-node a b o) d = absurd (d refl)
 
   closed : {x y : ℕ} → Beside p map r q x y → x ≤ largestExit → y ≡ lostSlide → x ≡ 0
   closed as-before h e = absurd (omega arith)
   closed (lost-slide s) h e = refl
-  closed (late-slide t) h e = refl
+  closed (long-slide t) h e = refl
   closed (new-node a b o) h e = refl
 
 module _ {p : Picture} (S : Sound p) {map rows exits work map′ rows′ exits′ work′ : List ℕ} {n n′ : ℕ}

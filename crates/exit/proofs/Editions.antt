@@ -2,7 +2,7 @@
 --     slide-total       every slide from a codel of the grid ends, in both editions
 --     lost-exactly      in edition 2 a slide is lost exactly where no landing comes, however long it goes on
 --     lands-both        where edition 1's slide lands, edition 2's lands at the same codel in the same state
---     lost-then-late    a slide that is lost in edition 1 and lands in edition 2 has turned eight times or more
+--     lost-then-long    a slide that is lost in edition 1 and lands in edition 2 has turned eight times or more
 --     attempt-total     every attempt from a codel of the grid comes to something, in both editions
 --     ways-beside       in edition 2 to the same as in edition 1, but for such slides
 --     opens-both        what is open in edition 1 is open in edition 2, and leads to the same
@@ -83,9 +83,9 @@ lands-early {past = past} {r = r} {c = c} {s = s} (move {r′ = a} {c′ = b} h 
     move (lt-leb mostTurns (turnsOf (station r c s ∷ past)) (omega (arith, turns-grow d, turns-move r c s past a b, q))) e (lands-early d q)
 lands-early {past = past} {r = r} {c = c} {s = s} (land h e) q = land (lt-leb mostTurns (turnsOf (station r c s ∷ past)) q) e
 
-pub lost-then-late : {p : Picture} {r c a b : ℕ} {s u : PointerState} → Ends p eighthTurn r c s Lost → (y : Ends p comesBack r c s (Landed a b u))
+pub lost-then-long : {p : Picture} {r c a b : ℕ} {s u : PointerState} → Ends p eighthTurn r c s Lost → (y : Ends p comesBack r c s (Landed a b u))
     → mostTurns ≤ turnsOf (y .trail)
-lost-then-late x y = by-test (leb mostTurns (turnsOf (y .trail))) refl
+lost-then-long x y = by-test (leb mostTurns (turnsOf (y .trail))) refl
   where
     by-test : (z : Bool) → leb mostTurns (turnsOf (y .trail)) ≡ z → mostTurns ≤ turnsOf (y .trail)
     by-test true e = leb-true mostTurns (turnsOf (y .trail)) e
@@ -95,7 +95,7 @@ lost-then-late x y = by-test (leb mostTurns (turnsOf (y .trail))) refl
 pub data Ways (p : Picture) (s : PointerState) : Way → Way → Type 0 where
   same : {w : Way} → Ways p s w w
   -- the slide from the white codel (r, c) is lost at its eighth turn, and lands after it
-  late : {r c a b : ℕ} {u : PointerState} → Ends p eighthTurn r c s Lost → (d : Ends p comesBack r c s (Landed a b u)) → mostTurns ≤ turnsOf (d .trail)
+  long : {r c a b : ℕ} {u : PointerState} → Ends p eighthTurn r c s Lost → (d : Ends p comesBack r c s (Landed a b u)) → mostTurns ≤ turnsOf (d .trail)
       → Ways p s (Astray r c) (Glide r c a b u)
 
 module _ {p : Picture} {r c : ℕ} {s : PointerState} (i : Inside p r c) (v : Valid s) where
@@ -120,7 +120,7 @@ module _ {p : Picture} {r c : ℕ} {s : PointerState} (i : Inside p r c) (v : Va
   beside (lost {r′ = x} {c′ = y} q d) = by-end (page-slide-total p x y s (white-inside p r c (s .dp) i q) v)
     where
       by-end : (o : Slid) × Ends p comesBack x y s o → (w′ : Way) × Attempt Page p r c s w′ × Ways p s (Astray x y) w′
-      by-end (Landed a b u, z) = (Glide x y a b u, glide q z, late d z (lost-then-late d z))
+      by-end (Landed a b u, z) = (Glide x y a b u, glide q z, long d z (lost-then-long d z))
       by-end (Lost, z) = (Astray x y, lost q z, same)
 
   pub ways-beside : {w w′ : Way} → Attempt Rust p r c s w → Attempt Page p r c s w′ → Ways p s w w′

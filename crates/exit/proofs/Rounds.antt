@@ -1,16 +1,20 @@
 -- The stations of a slide by their number, and the loop that a lost slide of edition 2 runs into.
+--     lost-soonest    a slide is lost at the first station that comes again
 --     lost-rounds     the stations from which a lost slide looks ahead are the way to the loop and the loop
 --     rounds          from every station of the loop on it goes round
 --     lands-after     what lands in k moves and turns lands from its n-th station in n less
 -- Assumes nothing.
 use mathlib.Core.Path.{_≡_, refl, sym, ap, _∙_}
-use mathlib.Core.Bool.{Bool, true, false}
+use mathlib.Core.Bool.{Bool, true, false, _||_}
 use mathlib.Core.List.{[], _∷_}
 use Prim.Native.Nat.{ℕ, zero, suc, _+_, _-_, _%_, _<_, _≤_}
 use native.Mathlib.Nat.{add-suc}
 use native.Mathlib.Numerals.{add-one}
 use native.Mathlib.Omega.{arith}
+use borrow.Author.Tests.{eqb-true, eqb-false, eq-eqb}
+use lib.Dec.{eqb}
 use lib.ListN.{length}
+use Rattle.base.proofs.Clash.{clash}
 use Rattle.flow.specs.Pointer.{turnedOnce}
 use Rattle.flow.specs.declared.PointerState.{PointerState}
 use Rattle.picture.specs.Picture.{Picture}
@@ -116,6 +120,51 @@ lost-loop {p} {a} {past} {r = r} {c = c} {s = s} (lost h) g e =
     (m, length past - m, record { some = omega arith; round = q ∙ sym e ∙ ap (λ (n : ℕ). after p n a) (sym f) }, omega arith)
 lost-loop {p} {r = r} {c = c} {s = s} (turn h l d) g e = lost-loop d (more e g) (ap (onward p) e ∙ onward-turn p r c s l)
 lost-loop {p} {r = r} {c = c} {s = s} (move h l d) g e = lost-loop d (more e g) (ap (onward p) e ∙ onward-move p r c s l)
+
+-- a station of such a trail occurs on it
+at-occurs : {p : Picture} {a : Station} {t : Trail} (b : Station) (i : ℕ) → Along p a t → i < length t → after p i a ≡ b → occurs b t ≡ true
+unfolding occurs
+at-occurs b i none h e = absurd (omega arith)
+at-occurs {p} {a} b i (more {b = d} {t = t} q l) h e = by-test (eqb i (length t)) refl (λ k. at-occurs b i l k e)
+  where
+    or-true : (x : Bool) → x || true ≡ true
+    or-true true = refl
+    or-true false = refl
+
+    itself : sameStation b b ≡ true
+    itself = simp (eq-eqb (b .row) (b .row) refl, eq-eqb (b .col) (b .col) refl, eq-eqb (b .dp) (b .dp) refl)
+
+    by-test : (x : Bool) → eqb i (length t) ≡ x → (i < length t → occurs b t ≡ true) → sameStation b d || occurs b t ≡ true
+    by-test true f deeper =
+        let last : i ≡ length t = eqb-true i (length t) f in
+        let same : b ≡ d = sym e ∙ ap (λ (n : ℕ). after p n a) last ∙ q in
+        rw (← same) (rw itself refl)
+    by-test false f deeper = rw (deeper (omega (arith, eqb-false i (length t) f))) (or-true (sameStation b d))
+
+-- where a station is new, none has come again so far
+still-new : {p : Picture} {a b : Station} {past : Trail} {i j : ℕ} → occurs b past ≡ false → Along p a past → after p (length past) a ≡ b
+    → i < j → after p i a ≡ after p j a → length past ≤ j → length past < j
+still-new {p} {a} {b} {past} {i} {j} h g e k q z = by-test (eqb j (length past)) refl
+  where
+    by-test : (x : Bool) → eqb j (length past) ≡ x → length past < j
+    by-test true f =
+        let last : j ≡ length past = eqb-true j (length past) f in
+        let there = at-occurs b i g (omega (arith, last)) (q ∙ ap (λ (n : ℕ). after p n a) last ∙ e) in
+        clash (cc)
+    by-test false f = omega (arith, eqb-false j (length past) f)
+
+-- so the slide is lost no later than any station comes again
+lost-first : {p : Picture} {a : Station} {past t : Trail} {r c i j : ℕ} {s : PointerState} → Slide p comesBack past r c s t Lost
+    → Along p a past → after p (length past) a ≡ station r c s → i < j → after p i a ≡ after p j a → length past ≤ j → length t ≤ j + 1
+unfolding comesBack after
+lost-first (lost h) g e k q z = omega arith
+lost-first {p} {r = r} {c = c} {s = s} (turn h l d) g e k q z = lost-first d (more e g) (ap (onward p) e ∙ onward-turn p r c s l) k q (omega (arith, still-new h g e k q z))
+lost-first {p} {r = r} {c = c} {s = s} (move h l d) g e k q z = lost-first d (more e g) (ap (onward p) e ∙ onward-move p r c s l) k q (omega (arith, still-new h g e k q z))
+
+pub lost-soonest : {p : Picture} {t : Trail} {r c i j : ℕ} {s : PointerState} → Slide p comesBack [] r c s t Lost
+    → i < j → after p i (station r c s) ≡ after p j (station r c s) → looksOf Lost t ≤ j
+unfolding after looksOf
+lost-soonest d k q = omega (arith, lost-first d none refl k q (omega arith))
 
 pub lost-rounds : {p : Picture} {t : Trail} {r c : ℕ} {s : PointerState} → Slide p comesBack [] r c s t Lost
     → (m : ℕ) × (l : ℕ) × Loop p (station r c s) m l × (looksOf Lost t ≡ m + l)

@@ -21,7 +21,7 @@ use Rattle.exit.specs.Watched.{begunAt, Met, Noted, here, still, Walks}
 use Rattle.exit.proofs.SlideLaws.{white-inside}
 use Rattle.exit.proofs.Lands.{Lands, lands-only, after-turn, after-move, lands-again, lands-back}
 use Rattle.exit.proofs.Stations.{page-slide-total, page-slide-short, lands-soon, no-landing-lost}
-use Rattle.exit.proofs.Rounds.{onward, after, onward-turn, onward-move, after-more, Loop, rounds, lost-rounds, lands-after}
+use Rattle.exit.proofs.Rounds.{onward, after, onward-turn, onward-move, after-more, Loop, rounds, lost-soonest, lost-rounds, lands-after}
 
 abbrev pub keptOf : Watch → Station
 keptOf w = record { row = w .row; col = w .col; dp = w .dp }
@@ -166,20 +166,26 @@ module _ {p : Picture} {r₀ c₀ : ℕ} {s₀ : PointerState} {r c : ℕ} {s : 
       let (j, q, m) = lands-after (w .looks) (station r₀ c₀ s₀) l (S .ahead k l) in
       (j, q, subst (λ (b : Station). Lands p b j) (S .hunt .present) m)
 
+  met-same : Met w r c (s .dp) → keptOf w ≡ station r c s
+  met-same m = λ i. record { row = m .same-row i; col = m .same-col i; dp = m .same-dp i }
+
   -- the kept station is met again: it would land both later and now
   none-lands : Met w r c (s .dp) → (k : ℕ) → Lands p (station r₀ c₀ s₀) k → ⊥
   none-lands m k l =
-      let same : keptOf w ≡ station r c s = λ i. record { row = m .same-row i; col = m .same-col i; dp = m .same-dp i } in
       let (j, q, x) = here-lands k l in
       let (i, z, y) = lands-after (S .hunt .at) (station r₀ c₀ s₀) l (omega (arith, S .ahead k l, S .hunt .before)) in
-      let one = lands-only (subst (λ (b : Station). Lands p b i) (S .hunt .kept ∙ same) y) x in
+      let one = lands-only (subst (λ (b : Station). Lands p b i) (S .hunt .kept ∙ met-same m) y) x in
       omega (arith, S .hunt .earlier (m .some))
 
   pub met-again : Met w r c (s .dp) → Walks p r₀ c₀ s₀ (record { end = Lost; looks = w .looks })
   met-again m =
       let x = no-landing-lost (S .begin) (S .began) (none-lands m) in
-      let (m, l, o, q) = lost-rounds (x .slides) in
-      record { ends = x; cheap = omega (arith, looks-few (S .hunt) m l o, q) }
+      let (n, l, o, q) = lost-rounds (x .slides) in
+      record {
+        ends = x;
+        own = lost-soonest (x .slides) (S .hunt .earlier (m .some)) (S .hunt .kept ∙ met-same m ∙ sym (S .hunt .present));
+        cheap = omega (arith, looks-few (S .hunt) n l o, q);
+      }
 
   pub walks-lands : {a b : ℕ} {w′ : Watch} → Noted w r c (s .dp) w′ → lookOf p r c (s .dp) ≡ Coloured a b
       → Walks p r₀ c₀ s₀ (record { end = Landed a b s; looks = w′ .looks })
@@ -187,6 +193,7 @@ module _ {p : Picture} {r₀ c₀ : ℕ} {s₀ : PointerState} {r c : ℕ} {s : 
   walks-lands n e =
       record {
         ends = record { trail = station r c s ∷ S .past; slides = lands-back (S .rest _ _ (land refl e)) };
+        own = omega (arith, noted-looks n, S .passed);
         cheap = omega (arith, noted-looks n, S .passed);
       }
 

@@ -28,7 +28,8 @@ pub data Noted (w : Watch) (r c d : ℕ) : Watch → Type 0 where
 abbrev pub mostLooks : ℕ
 mostLooks = 3 * (4 * 65536)
 
--- edition 2's slide ends as told, and the code looks at most three times as often as the slide itself
+-- edition 2's slide ends as told, and the looks that are told are no fewer than the slide's own, and at most three times as many
 pub record Walks (p : Picture) (r c : ℕ) (s : PointerState) (x : Walked) : Type 0 where
   pub ends : Ends p comesBack r c s (x .end)
+  pub own : looksOf (x .end) (ends .trail) ≤ x .looks
   pub cheap : x .looks ≤ 3 * looksOf (x .end) (ends .trail)
