@@ -45,7 +45,7 @@ enum piet_refusal {
     PIET_REFUSED_BYTES = 2,    /* pixels not 3 x height x width bytes, or colours not height x width */
     PIET_REFUSED_SETTING = 3,  /* a setting for unknown pixels above 3 */
     PIET_REFUSED_ROOM = 4,     /* too short: colours, map, rows, exits, work, a P6 call's pixels or file, or answer */
-    PIET_REFUSED_PIXEL = 5,    /* settings 0 and 1: a pixel that is none of the twenty colours; its row and column */
+    PIET_REFUSED_PIXEL = 5,    /* setting 1: a pixel that is none of the twenty colours; its row and column */
     PIET_REFUSED_CODEL = 6,    /* codel width 0 or above 1,024 */
     PIET_REFUSED_GRID = 7,     /* more than 65,536 codels */
     PIET_REFUSED_COLOUR = 8,   /* a colour number above 19; its index */
@@ -121,7 +121,7 @@ enum piet_cc {
 
 /* What becomes of a pixel that is none of the twenty colours. */
 enum piet_unknown {
-    PIET_UNKNOWN_DEFAULT = 0, /* acts as PIET_UNKNOWN_REFUSED */
+    PIET_UNKNOWN_DEFAULT = 0, /* acts as PIET_UNKNOWN_WHITE */
     PIET_UNKNOWN_REFUSED = 1,
     PIET_UNKNOWN_WHITE = 2,
     PIET_UNKNOWN_BLACK = 3

@@ -404,6 +404,7 @@ static void tables(void)
     FILL(two, 91);
     FILL(three, 92);
     classify(PIET_UNKNOWN_REFUSED, three, COUNT(three));
+    classify(PIET_UNKNOWN_DEFAULT, three, COUNT(three));
     classify(PIET_UNKNOWN_BLACK, three, COUNT(three));
     classify(PIET_UNKNOWN_BLACK, one, COUNT(one));
     label(two, COUNT(two));

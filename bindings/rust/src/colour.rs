@@ -53,7 +53,7 @@ from_outside!(Colour, "colour");
 numbered! {
     /// What becomes of a pixel that is none of the twenty colours.
     Unknown {
-        /// As the library has it by default: refused.
+        /// As the library has it by default: it becomes white.
         Default = 0,
         /// The picture is refused.
         Refused = 1,

@@ -7,6 +7,7 @@ use Rattle.base.specs.Edition.{rustNumber}
 use Rattle.base.specs.Lent.{lent}
 use Rattle.base.specs.Numbers.{Numbers, numbers, numberOf}
 use Rattle.colour.specs.Label.{labelOf}
+use Rattle.colour.specs.Setting.{refusing}
 use Rattle.picture.specs.Picture.{Picture, colsOf, codels, codelColour}
 use Rattle.region.specs.Grid.{gridOf}
 use Rattle.region.specs.Region.{IsMap}
@@ -20,10 +21,10 @@ use Rattle.job.specs.Encoding.{Content, IsJob}
 use Rattle.job.specs.Outcome as reading
 use Rattle.report.specs.Text.{resultText, refusalText}
 
--- what a job asks of a run, under setting 0 and in edition 1 (rules 13.4, 16.7)
+-- what a job asks of a run: unknown pixels refused, in edition 1 (rules 13.4, 16.7)
 abbrev pub askedOf : Content → Asked
 askedOf c =
-    asked (c .pixels) (c .height) (c .width) 0 (c .codel) (asks rustNumber (c .limit) (c .abstracted) (c .input))
+    asked (c .pixels) (c .height) (c .width) refusing (c .codel) (asks rustNumber (c .limit) (c .abstracted) (c .input))
 
 -- the refusals of running a picture (rule 12.5), with room for 512 pixels, and so for the table of 512 codels (rule 13.4)
 abbrev pub refusalOf : Content → Numbers

@@ -10,6 +10,7 @@ ghost use Rattle.answer.specs.Answer.{askedOf, Prints, Outcome};
 ghost use Rattle.answer.specs.Printing.{Starts, Legal, HasLabel, labelIn, linesOf, Printable};
 use base::edition::RUST_EDITION;
 use colour::label::Labelled;
+use colour::setting::REFUSE_UNKNOWN;
 use interpreter::Ended;
 use job::Job;
 use job::Parts;
@@ -83,7 +84,7 @@ fn put_ended(
     put_result(out, f, &label[..n], stack, kinds, values)
 }
 
-// The run that a job asks for: setting 0 and edition 1, its pixels and its input as parts of the job.
+// The run that a job asks for: unknown pixels refused, edition 1, its pixels and its input as parts of the job.
 fn run_parts(
     job: &[u8],
     p: Parts,
@@ -107,7 +108,7 @@ fn run_parts(
         &job[pixels..settings],
         p.height,
         p.width,
-        0,
+        REFUSE_UNKNOWN,
         p.codel,
         RUST_EDITION,
         p.limit,

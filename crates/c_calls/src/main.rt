@@ -7,7 +7,7 @@
 //     red    white         cyan
 // and its other pixels are black, but for (2,1), which has none of the twenty colours. No two slices of a call are filled
 // alike before it, and no two of one type are of one length.
-//     classify       the place of the unknown pixel tells height from width; setting 3 makes it black
+//     classify       the place of the unknown pixel tells height from width; setting 0 makes it white, 3 black
 //     label          a row and a column of unlike digits
 //     build          every slice is longer than its room; the map shows the width; edition 3 is refused
 //     forever        the rows are too short to be exits
@@ -241,6 +241,7 @@ fn tables() {
     let mut two = [91u64; 2];
     let mut three = [92u64; 3];
     classify(1, &mut three);
+    classify(0, &mut three);
     classify(3, &mut three);
     classify(3, &mut one);
     label(&mut two);

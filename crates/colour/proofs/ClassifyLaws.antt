@@ -1,17 +1,14 @@
--- Laws of pixels as triples, of the first unknown one and of the list that is written. Assumes nothing.
+-- Laws of pixels as triples, and of a call that is not refused. Assumes nothing.
 use mathlib.Core.Path.{_≡_, _∙_, ap, refl}
 use mathlib.Core.List.{List, [], _∷_}
 use Prim.Native.Nat.{ℕ, zero, suc, _+_, _*_, _<_, _≤_}
-use native.Mathlib.Numerals.{add-one}
 use native.Mathlib.Omega.{arith}
-use lib.ListN.{length, getD, drop, drop-of-length-le, length-map}
-use lib.Seq.{drop-cons}
+use lib.ListN.{length, getD, length-map}
 use borrow.Author.Tests.{eqb-true, ltb-false, not-false}
-use Rattle.colour.specs.declared.palette.Found.{Found}
-use Rattle.colour.specs.declared.palette.Found.the-variants.{Known, Unknown}
+use Rattle.colour.specs.declared.palette.Found.the-variants.{Unknown}
 use Rattle.colour.specs.Palette.{rgb, colourOf, pixelsOf}
 use Rattle.base.specs.Limits.{wrongSide}
-use Rattle.colour.specs.Classify.{numbered, answer, refusals, found, knownFirst}
+use Rattle.colour.specs.Classify.{numbered, answer, refusals, found}
 use Rattle.base.proofs.Tests.{neither}
 use Rattle.base.proofs.Sides.{side}
 use Rattle.base.proofs.Refusals.{passed}
@@ -43,19 +40,6 @@ length-pixels (r ∷ g ∷ b ∷ rest) (suc n) h = ap suc (length-pixels rest n 
 pub length-found : (p : List ℕ) (n : ℕ) → length p ≡ 3 * n → length (found p) ≡ n
 unfolding found
 length-found p n h = length-map (pixelsOf p) colourOf ∙ length-pixels p n h
-
-module _ (fs : List Found) (i : ℕ) (h : i < length fs) where
-  pub first-unknown : getD fs i Unknown ≡ Unknown → knownFirst (drop i fs) ≡ 0
-  unfolding knownFirst
-  first-unknown e = rw (drop-cons fs i Unknown, e)
-
-  pub one-more : (c : ℕ) → getD fs i Unknown ≡ Known c → i + knownFirst (drop i fs) ≡ (i + 1) + knownFirst (drop (i + 1) fs)
-  unfolding knownFirst
-  one-more c e = rw (add-one i, drop-cons fs i Unknown, e) (omega arith)
-
-pub none-left : (fs : List Found) (i : ℕ) → length fs ≤ i → knownFirst (drop i fs) ≡ 0
-unfolding knownFirst
-none-left fs i h = rw (drop-of-length-le fs h)
 
 -- what a call that is not refused may rely on
 pub record Accepted (pixels : List ℕ) (height width room : ℕ) : Type 0 where

@@ -1,10 +1,12 @@
 -- What the definitions say of the whole palette, of an unknown pixel, and of labels. Assumes nothing.
 use mathlib.Core.Path.{_≡_, refl}
-use mathlib.Core.List.{[], _∷_, map}
+use mathlib.Core.List.{List, [], _∷_, map}
+use Prim.Native.Nat.{ℕ}
 use lib.ListN.{getD}
 use Rattle.colour.specs.declared.palette.Found.the-variants.{Known, Unknown}
 use Rattle.colour.specs.Palette.{rgb, palette, colourOf, numberIn, pixelsOf}
-use Rattle.colour.specs.Classify.{found, colourUnder, coloursUnder}
+use Rattle.base.specs.Numbers.{numbers, first}
+use Rattle.colour.specs.Classify.{found, knownFirst, colourUnder, coloursUnder, unknownPixel, refusals, answer}
 use Rattle.base.specs.Text.{ascii, decimal, digits}
 use Rattle.colour.specs.Label.{labelOf, name, place}
 
@@ -20,13 +22,23 @@ pub unknown : colourOf (rgb 0xC0 0xC0 0xC0) ≡ Unknown
 unfolding colourOf numberIn
 unknown = refl
 
--- the number of an unknown pixel under settings 2 and 3 (rule 1.2), and the bytes that the page gives that colour (rule 14.1)
-pub substituted :
-    (coloursUnder (0xC0 ∷ 0xC0 ∷ 0xC0 ∷ []) 2 ≡ 19 ∷ [])
-    × ((coloursUnder (0xC0 ∷ 0xC0 ∷ 0xC0 ∷ []) 3 ≡ 18 ∷ [])
-    × ((getD palette 19 (rgb 0 0 1) ≡ rgb 0xFF 0xFF 0xFF) × (getD palette 18 (rgb 0 0 1) ≡ rgb 0 0 0)))
-unfolding coloursUnder found pixelsOf colourOf numberIn colourUnder
-substituted = (refl, (refl, (refl, refl)))
+-- red, and a pixel that is unknown
+abbrev p : List ℕ
+p = 0xFF ∷ 0 ∷ 0 ∷ 1 ∷ 2 ∷ 3 ∷ []
+
+-- by the setting, 1 x 2 (rule 1.2): 1 refuses the pixel at (0,1), 0 and 2 make it white, 3 black, and 4 is none
+pub by-setting :
+    (answer p 1 2 0 2 ≡ numbers 0 (0 ∷ 0 ∷ [])) × (coloursUnder p 0 ≡ 6 ∷ 19 ∷ [])
+    × ((answer p 1 2 1 2 ≡ numbers 5 (0 ∷ 1 ∷ []))
+    × ((answer p 1 2 2 2 ≡ numbers 0 (0 ∷ 0 ∷ [])) × (coloursUnder p 2 ≡ 6 ∷ 19 ∷ [])
+    × ((answer p 1 2 3 2 ≡ numbers 0 (0 ∷ 0 ∷ [])) × (coloursUnder p 3 ≡ 6 ∷ 18 ∷ [])
+    × (answer p 1 2 4 2 ≡ numbers 3 (0 ∷ 0 ∷ [])))))
+unfolding answer refusals unknownPixel knownFirst first coloursUnder found pixelsOf colourOf numberIn colourUnder
+by-setting = (refl, refl, (refl, (refl, refl, (refl, refl, refl))))
+
+-- 19 and 18 have the page's bytes of white and black (rule 14.1)
+pub white-and-black : (getD palette 19 (rgb 0 0 1) ≡ rgb 0xFF 0xFF 0xFF) × (getD palette 18 (rgb 0 0 1) ≡ rgb 0 0 0)
+white-and-black = (refl, refl)
 
 pub labels :
     (labelOf 6 0 1 ≡ ascii "RegRed_0_1") × ((labelOf 17 1023 1010 ≡ ascii "LightMagenta_1023_1010") × (labelOf 18 0 0 ≡ ascii "Entry"))

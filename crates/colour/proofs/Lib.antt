@@ -1,6 +1,8 @@
 -- Laws that belong to no one function.
-pub mod PaletteLaws
+pub mod LookupLaws
 pub mod ClassifyLaws
+pub mod StretchLaws
+pub mod SettingLaws
 pub mod DecodeLaws
 pub mod LabelLaws
 pub mod Only

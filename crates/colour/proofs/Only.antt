@@ -3,7 +3,8 @@
 --     check                                          check-only
 --     in_numbers, placeless                          told-only
 --     label                                          label-only
---     found_at, colour_under, colour_of, decode      `equation-only` of base's proofs/Only.antt
+--     found_at, colour_under, decode, no_setting,
+--     refuses, substitute                            `equation-only` of base's proofs/Only.antt
 -- Assumes nothing.
 use mathlib.Core.Path.{_≡_, _∙_, sym, ap, refl}
 use mathlib.Core.List.{List, [], _∷_}

@@ -1,6 +1,6 @@
 -- Classifying: refusals 1, 3, 2, 4, 5 in this order (rule 12.3), and what is written (rules 1.2, 1.3). Assumes nothing.
 use mathlib.Core.Path.{_≡_}
-use mathlib.Core.Bool.{Bool, not, cond, _&&_, _||_}
+use mathlib.Core.Bool.{Bool, not, _&&_, _||_}
 use mathlib.Core.List.{List, [], _∷_, map}
 use Prim.Native.Nat.{ℕ, suc, _*_, _/_, _%_}
 use lib.Dec.{eqb, ltb}
@@ -12,7 +12,8 @@ use Rattle.colour.specs.declared.classify.Classified.the-variants.{Done,
 use Rattle.base.specs.Numbers.{Numbers, numbers, Row, row, first, unlessRefused}
 use Rattle.base.specs.Lent.{lent}
 use Rattle.base.specs.Limits.{wrongSide}
-use Rattle.colour.specs.Palette.{colourOf, pixelsOf, black, white}
+use Rattle.colour.specs.Palette.{colourOf, pixelsOf}
+use Rattle.colour.specs.Setting.{noSetting, refuses, substitute}
 
 -- the answer's number (rule 12.2), and the row and the column, zeros where there is none
 abbrev pub numbered : Classified → Numbers
@@ -22,13 +23,6 @@ numbered Bytes = numbers 2 (0 ∷ 0 ∷ [])
 numbered Setting = numbers 3 (0 ∷ 0 ∷ [])
 numbered Room = numbers 4 (0 ∷ 0 ∷ [])
 numbered (Pixel r c) = numbers 5 (r ∷ c ∷ [])
-
--- what a setting does with a pixel that is not in the table: 0 and 1 refuse it, 2 makes it white, and 3 black (rule 1.2)
-abbrev pub refusesUnknown : ℕ → Bool
-refusesUnknown s = ltb s 2
-
-abbrev pub substitute : ℕ → ℕ
-substitute s = cond (eqb s 2) white black
 
 -- how many colours stand before the first that is unknown
 unfoldable pub knownFirst : List Found → ℕ
@@ -54,10 +48,10 @@ unknownPixel strict pixels n width =
 unfoldable pub refusals : List ℕ → ℕ → ℕ → ℕ → ℕ → List Row
 refusals pixels height width setting room =
     row (wrongSide height || wrongSide width) (numbers 1 (0 ∷ 0 ∷ []))
-    ∷ row (ltb 3 setting) (numbers 3 (0 ∷ 0 ∷ []))
+    ∷ row (noSetting setting) (numbers 3 (0 ∷ 0 ∷ []))
     ∷ row (not (eqb (length pixels) (3 * (height * width)))) (numbers 2 (0 ∷ 0 ∷ []))
     ∷ row (ltb room (height * width)) (numbers 4 (0 ∷ 0 ∷ []))
-    ∷ unknownPixel (refusesUnknown setting) pixels (height * width) width
+    ∷ unknownPixel (refuses setting) pixels (height * width) width
     ∷ []
 
 unfoldable pub answer : List ℕ → ℕ → ℕ → ℕ → ℕ → Numbers

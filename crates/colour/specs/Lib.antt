@@ -1,5 +1,8 @@
 -- What the contracts of `colour` cite.
 pub mod Palette
+pub mod Lookup
+pub mod Setting
+pub mod Stretch
 pub mod Classify
 pub mod Instruction
 pub mod Decode

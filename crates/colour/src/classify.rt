@@ -7,6 +7,7 @@ ghost use mathlib.Core.Bool.{true};
 ghost use mathlib.Core.List.{[], _∷_};
 ghost use Rattle.base.specs.Lent.{lent};
 ghost use Rattle.base.specs.Numbers.{numbers, first};
+ghost use Rattle.colour.specs.Lookup.{rows, likelyRows};
 ghost use Rattle.colour.specs.Classify.{
   Outcome,
   numbered,
@@ -17,10 +18,15 @@ ghost use Rattle.colour.specs.Classify.{
   colourUnder,
   coloursUnder,
 };
-use crate::palette::BLACK;
+use crate::lookup::LIKELY;
+use crate::lookup::colour_of;
 use crate::palette::Found;
-use crate::palette::WHITE;
-use crate::palette::colour_of;
+use crate::palette::PALETTE;
+use crate::setting::no_setting;
+use crate::setting::refuses;
+use crate::setting::substitute;
+use crate::stretch::alike;
+use base::fill::fill_u8;
 use base::limits::wrong_side;
 
 // What a call answers: done, or a refusal, with the place of an unknown pixel.
@@ -69,13 +75,23 @@ pub fn in_numbers(r: Classified) -> Told
     }
 }
 
-// What the table says of pixel i.
+// What the palette says of pixel i.
+fn found_in(palette: &[u32], likely: &[u8], pixels: &[u8], i: usize) -> Found
+    requires { ⌜ ((now palette ≡ rows) × (now likely ≡ likelyRows)) × (3 * i + 2 < length (now pixels)) ⌝ }
+    ensures { λ f. ⌜ f ≡ getD (found (now (pixels .entry))) i Unknown ⌝ }
+{
+    let at = 3 * i;
+    colour_of(palette, likely, pixels[at], pixels[at + 1], pixels[at + 2])
+}
+
+// The same, of one pixel by itself.
 pub fn found_at(pixels: &[u8], i: usize) -> Found
     requires { ⌜ 3 * i + 2 < length (now pixels) ⌝ }
     ensures { λ f. ⌜ f ≡ getD (found (now (pixels .entry))) i Unknown ⌝ }
 {
-    let at = 3 * i;
-    colour_of(pixels[at], pixels[at + 1], pixels[at + 2])
+    let palette = PALETTE;
+    let likely = LIKELY;
+    found_in(&palette, &likely, pixels, i)
 }
 
 // How many of the n pixels stand before the first that is not in the table.
@@ -83,13 +99,20 @@ fn known_first(pixels: &[u8], n: usize) -> usize
     requires { ⌜ length (now pixels) ≡ 3 * n ⌝ }
     ensures { λ k. ⌜ k ≡ knownFirst (found (now (pixels .entry))) ⌝ }
 {
+    let palette = PALETTE;
+    let likely = LIKELY;
     let mut i = 0;
     while i < n {
-        let f = found_at(pixels, i);
-        if let Found::Unknown = f {
-            return i;
+        let end = alike(pixels, i, n);
+        if end == i {
+            let f = found_in(&palette, &likely, pixels, i);
+            if let Found::Unknown = f {
+                return i;
+            }
+            i += 1;
+        } else {
+            i = end;
         }
-        i += 1;
     }
     i
 }
@@ -121,7 +144,7 @@ pub fn check(pixels: &[u8], height: usize, width: usize, setting: u8, room: usiz
         return Classified::Size;
     }
     let n = height * width;
-    if 3 < setting {
+    if no_setting(setting) {
         return Classified::Setting;
     }
     if pixels.len() != 3 * n {
@@ -130,10 +153,10 @@ pub fn check(pixels: &[u8], height: usize, width: usize, setting: u8, room: usiz
     if room < n {
         return Classified::Room;
     }
-    if 1 < setting {
-        return Classified::Done;
+    if refuses(setting) {
+        return first_unknown(pixels, n, width);
     }
-    first_unknown(pixels, n, width)
+    Classified::Done
 }
 
 // The colour number that a setting makes of what the table says.
@@ -142,7 +165,7 @@ pub fn colour_under(setting: u8, f: Found) -> u8
 {
     match f {
         Found::Known(c) => c,
-        Found::Unknown => { if setting == 2 { WHITE } else { BLACK } }
+        Found::Unknown => substitute(setting),
     }
 }
 
@@ -151,11 +174,20 @@ fn paint(pixels: &[u8], n: usize, setting: u8, colours: &mut [u8])
     requires { ⌜ (length (now pixels) ≡ 3 * n) × (n ≤ length (now colours)) ⌝ }
     ensures { λ _. ⌜ now (colours .exit) ≡ lent (coloursUnder (now (pixels .entry)) setting) (now (colours .entry)) ⌝ }
 {
+    let palette = PALETTE;
+    let likely = LIKELY;
     let mut i: usize = 0;
     while i < n {
-        let f = found_at(pixels, i);
-        colours[i] = colour_under(setting, f);
-        i += 1;
+        let end = alike(pixels, i, n);
+        if end == i {
+            let f = found_in(&palette, &likely, pixels, i);
+            colours[i] = colour_under(setting, f);
+            i += 1;
+        } else {
+            let colour = colours[i - 1];
+            fill_u8(colours, i, end, colour);
+            i = end;
+        }
     }
 }
 

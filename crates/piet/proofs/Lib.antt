@@ -1,4 +1,5 @@
--- Demand 3, proved; what the call from pixels to a run's result keeps of it; and the definitions against the page's rules.
+-- Demand 3, proved; what the call from pixels to a run's result keeps of it; its default setting; and the definitions against
+-- the page's rules.
 pub mod Bridge
 pub mod MoveLaws
 pub mod Following
@@ -8,6 +9,7 @@ pub mod Seeing
 pub mod Refusing
 pub mod Drawing
 pub mod Only
+pub mod Default
 pub mod Page
 pub mod PageCommands
 pub mod PageRoll

@@ -12,7 +12,7 @@ use lib.ListN.{length, getD, List·getD-map}
 use Rattle.base.proofs.Table.{all-at}
 use Rattle.base.specs.declared.edition.Edition.{Edition}
 use Rattle.colour.specs.Palette.{rgb, same, palette, black, white}
-use Rattle.colour.proofs.PaletteLaws.{same-bytes}
+use Rattle.colour.proofs.LookupLaws.{same-bytes}
 use Rattle.colour.specs.Decode as decoding
 use Rattle.colour.specs.Decode.{decodeOf}
 use Rattle.flow.specs.declared.PointerState.{PointerState}

@@ -9,7 +9,8 @@ use lib.Dec.{eqb}
 use lib.ListN.{length, getD, length-map}
 use Rattle.colour.specs.declared.palette.Found.{Found}
 use Rattle.colour.specs.declared.palette.Found.the-variants.{Known, Unknown}
-use Rattle.colour.specs.Palette.{Rgb, same, palette, numberIn, colourOf, pixelsOf}
+use Rattle.colour.specs.Palette.{Rgb, same, palette, black, white, numberIn, colourOf, pixelsOf}
+use Rattle.colour.specs.Setting.{blackening}
 use Rattle.colour.specs.Classify.{found, colourUnder, coloursUnder}
 use Rattle.colour.proofs.ClassifyLaws.{length-found}
 use Rattle.cfg.specs.Build.{legalFirst}
@@ -35,9 +36,9 @@ colour-below p = number-below palette 0 20 p (omega arith)
 under-small : (s : ℕ) (f : Found) → Below 20 f → colourUnder s f ≤ 19
 unfolding colourUnder
 under-small s (Known c) h = omega arith
-under-small s Unknown h = go (eqb s 2)
+under-small s Unknown h = go (eqb s blackening)
   where
-    go : (b : Bool) → cond b 19 18 ≤ 19
+    go : (b : Bool) → cond b black white ≤ 19
     go true = omega arith
     go false = omega arith
 

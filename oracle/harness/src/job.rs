@@ -11,6 +11,8 @@ pub enum Done {
 /// The room that the rules give the run program.
 const ROOM: Room = Room { stack: 256, outputs: 256 };
 const PIXELS: u32 = 512;
+/// Its setting for unknown pixels.
+const REFUSE_UNKNOWN: u8 = 1;
 const JOB: usize = 8_192;
 
 struct Job<'a> {
@@ -32,7 +34,7 @@ pub fn job(bytes: &[u8]) -> Option<Done> {
     if job.pixels.len() as u32 != 3 * size || size > PIXELS {
         return None;
     }
-    let classified = job.pixels.chunks(3).map(|p| classify([p[0], p[1], p[2]], 0));
+    let classified = job.pixels.chunks(3).map(|p| classify([p[0], p[1], p[2]], REFUSE_UNKNOWN));
     let Ok(colours) = classified.collect::<Result<Vec<u8>, String>>() else {
         return Some(Done::Refused(5));
     };

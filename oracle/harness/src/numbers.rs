@@ -63,8 +63,8 @@ pub fn order(state: u8) -> Vec<u8> {
 /// The colour number of one pixel under setting 0 to 3, or the panic.
 pub fn classify(pixel: [u8; 3], setting: u8) -> Result<u8, String> {
     let setting = match setting {
-        0 | 1 => TreatAsError,
-        2 => TreatAsWhite,
+        1 => TreatAsError,
+        0 | 2 => TreatAsWhite,
         3 => TreatAsBlack,
         _ => panic!("no setting has the number {setting}"),
     };

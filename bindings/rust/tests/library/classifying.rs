@@ -5,7 +5,7 @@ use piet::{classify, Cells, Colour, Refusal, Unknown};
 /// The refusal of classifying, which has to leave the colours as they were.
 fn refused(pixels: &[u8], sides: (usize, usize), room: usize) -> Refusal {
     let slices = Slices::of(row_of(room), Cells { stack: 0, ..CELLS });
-    crate::support::refused(slices, |lent| classify(pixels, sides, Unknown::Default, lent.colours))
+    crate::support::refused(slices, |lent| classify(pixels, sides, Unknown::Refused, lent.colours))
 }
 
 #[test]
@@ -25,8 +25,8 @@ fn refused_in_order() {
 #[test]
 fn unknown_pixels_by_setting() {
     let place = Err(Refusal::Pixel { row: 0, column: 0 });
-    assert_eq!(classified(UNKNOWN, Unknown::Default), place);
     assert_eq!(classified(UNKNOWN, Unknown::Refused), place);
+    assert_eq!(classified(UNKNOWN, Unknown::Default), Ok(Colour::White.number()));
     assert_eq!(classified(UNKNOWN, Unknown::White), Ok(Colour::White.number()));
     assert_eq!(classified(UNKNOWN, Unknown::Black), Ok(Colour::Black.number()));
 }

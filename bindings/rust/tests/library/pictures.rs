@@ -82,10 +82,23 @@ fn unknown_pixels_by_setting() {
             .map(|told| (told.ended.status, told.ended.steps))
     };
     let place = Err(Error::Refused(Refusal::Pixel { row: 0, column: 1 }));
-    assert_eq!((told(Unknown::Default), told(Unknown::Refused)), (place, place));
+    assert_eq!(told(Unknown::Refused), place);
     // through white it slides back to where it was, three times; black is no way out
-    assert_eq!(told(Unknown::White), Ok((Status::MaxSteps, 3)));
+    let slides = Ok((Status::MaxSteps, 3));
+    assert_eq!((told(Unknown::Default), told(Unknown::White)), (slides, slides));
     assert_eq!(told(Unknown::Black), Ok((Status::Completed, 0)));
+}
+
+/// Where a run would start, it is refused as unknown or as white.
+#[test]
+fn an_unknown_first_pixel() {
+    let told = |unknown| {
+        run_pixels(Picture { unknown, ..Picture::of(&UNKNOWN, row_of(1)) }, TERMS, CELLS).map(|told| told.ended.status)
+    };
+    assert_eq!(told(Unknown::Refused), Err(Error::Refused(Refusal::Pixel { row: 0, column: 0 })));
+    assert_eq!(told(Unknown::Default), Err(Error::Refused(Refusal::White)));
+    assert_eq!(told(Unknown::White), Err(Error::Refused(Refusal::White)));
+    assert_eq!(told(Unknown::Black), Ok(Status::Completed));
 }
 
 /// A picture that is wrong in all its later ways too gets the first refusal, and every slice stays; with the room made

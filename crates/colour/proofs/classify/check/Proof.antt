@@ -8,6 +8,7 @@ use borrow.Author.Tests.{lt-ltb, le-ltb, eq-eqb, ne-eqb}
 use Rattle.base.specs.Numbers.{first}
 use Rattle.base.specs.Limits.{wrongSide}
 use Rattle.colour.specs.Classify.{answer, refusals, unknownPixel}
+use Rattle.colour.specs.Setting.{noSetting}
 use Rattle.base.proofs.Tests.{neither}
 use Rattle.base.proofs.Sides.{side, area}
 use borrow.Author.Needs.{needs}
@@ -36,6 +37,10 @@ room c =
     let a = begin c .args in
     area (side (a .height) (neither _ (wrongSide (a .width)) (sides c) .0) .1) (wide c .1)
 
+-- the setting is one
+named : (c : tie.Else3) → noSetting (begin (c .before .before) .args .setting) ≡ false
+named c = sym (c .before .no-setting .ensures) ∙ c .if3 .left
+
 wrong-side-requires : tie.Need-wrong-side-requires
 wrong-side-requires c κs = search needs
 
@@ -50,40 +55,42 @@ returns-2 : tie.Need-returns-2
 unfolding answer refusals unknownPixel first
 returns-2 c = rw (← c .before .before .before .wrong-side .ensures, c .before .before .if1 .left, ← c .before .wrong-side2 .ensures, c .if2 .taken)
 
+no-setting-requires : tie.Need-no-setting-requires
+no-setting-requires c κs = search needs
+
 returns-3 : tie.Need-returns-3
 unfolding answer refusals unknownPixel first
-returns-3 c = rw (sides (c .before), lt-ltb _ _ (c .if3 .taken))
+returns-3 c = rw (sides (c .before .before), ← c .before .no-setting .ensures, c .if3 .taken)
 
 mul-n : tie.Need-mul-n
 mul-n c = record { fits = omega (arith, room c) }
 
 mul-if4 : tie.Need-mul-if4
-mul-if4 c = record { fits = omega (arith, room (c .before)) }
+mul-if4 c = record { fits = omega (arith, room (c .before .before)) }
 
 returns-4 : tie.Need-returns-4
 unfolding answer refusals unknownPixel first
-returns-4 c = rw (sides (c .before .before), le-ltb _ _ (c .before .if3 .left), ne-eqb _ _ (c .if4 .taken))
+returns-4 c = rw (sides (c .before .before .before), named (c .before), ne-eqb _ _ (c .if4 .taken))
 
 returns-5 : tie.Need-returns-5
 unfolding answer refusals unknownPixel first
-returns-5 c = rw (sides (c .before .before .before), le-ltb _ _ (c .before .before .if3 .left), eq-eqb _ _ (c .before .if4 .left), lt-ltb _ _ (c .if5 .taken))
+returns-5 c = rw (sides (c .before .before .before .before), named (c .before .before), eq-eqb _ _ (c .before .if4 .left), lt-ltb _ _ (c .if5 .taken))
+
+refuses-requires : tie.Need-refuses-requires
+refuses-requires c κs = search needs
+
+first-unknown-requires : tie.Need-first-unknown-requires
+first-unknown-requires c κs = (c .before .before .before .if4 .left, wide (c .before .before .before .before .before .before) .0)
 
 returns-6 : tie.Need-returns-6
 unfolding answer refusals unknownPixel first
 returns-6 c =
-    let e = c .before .before .before .before in
-    let a = begin e .args in
-    rw (sides e, le-ltb _ _ (c .before .before .before .if3 .left), eq-eqb _ _ (c .before .before .if4 .left), le-ltb _ _ (c .before .if5 .left), le-ltb (a .setting) 2 (omega arith))
-
-first-unknown-requires : tie.Need-first-unknown-requires
-first-unknown-requires c κs = (c .before .before .if4 .left, wide (c .before .before .before .before) .0)
+    rw (sides (c .before .before .before .before .before .before .before), named (c .before .before .before .before .before), eq-eqb _ _ (c .before .before .before .before .if4 .left), le-ltb _ _ (c .before .before .before .if5 .left), ← c .before .before .refuses .ensures, c .before .if6 .taken) (c .first-unknown .ensures)
 
 returns-7 : tie.Need-returns-7
 unfolding answer refusals unknownPixel first
 returns-7 c =
-    let e = c .before .before .before .before .before in
-    let a = begin e .args in
-    rw (sides e, le-ltb _ _ (c .before .before .before .before .if3 .left), eq-eqb _ _ (c .before .before .before .if4 .left), le-ltb _ _ (c .before .before .if5 .left), lt-ltb (a .setting) 2 (omega arith)) (c .first-unknown .ensures)
+    rw (sides (c .before .before .before .before .before .before), named (c .before .before .before .before), eq-eqb _ _ (c .before .before .before .if4 .left), le-ltb _ _ (c .before .before .if5 .left), ← c .before .refuses .ensures, c .if6 .left)
 
 pub check-spec : {M : Type 1} → statement M
 check-spec =
@@ -94,10 +101,12 @@ check-spec =
     wrong-side-requires-2
     returns-2
     mul-n
+    no-setting-requires
     returns-3
     mul-if4
     returns-4
     returns-5
-    returns-6
+    refuses-requires
     first-unknown-requires
+    returns-6
     returns-7)

@@ -18,6 +18,29 @@ pub fn pixels() -> (Vec<[u8; 3]>, usize) {
     ((0..1 << 20).map(|_| random.pick(&palette)).collect(), 1_024)
 }
 
+/// As many pixels by chance, nearly all of them unknown.
+pub fn strange() -> Vec<[u8; 3]> {
+    let mut random = Random::seeded(SEED);
+    (0..1 << 20).map(|_| [0; 3].map(|_: u8| random.below(256) as u8)).collect()
+}
+
+/// A scanned picture: codels of 10 x 10 pixels, with unknown pixels where two of them meet.
+pub fn scan(side: usize) -> Vec<[u8; 3]> {
+    let (mut random, palette) = (Random::seeded(SEED), palette());
+    let codels: Vec<[u8; 3]> = (0..side * side).map(|_| random.pick(&palette)).collect();
+    let pixel = |i: usize| {
+        let (row, column) = (i / side, i % side);
+        let colour = codels[row / 10 * side + column / 10];
+        let edge = row % 10 == 0 || column % 10 == 0;
+        if edge {
+            colour.map(|byte| byte ^ random.below(16) as u8)
+        } else {
+            colour
+        }
+    };
+    (0..side * side).map(pixel).collect()
+}
+
 /// Each texture on 4,096 and on 65,536 codels.
 pub fn textures() -> Vec<(&'static str, usize, Picture)> {
     let textures: [(&str, fn(&mut Random, usize) -> Vec<u8>); 4] = [

@@ -23,13 +23,22 @@ pub struct Classifying {
 }
 
 pub fn compare() -> Checked {
-    let whole = check("classify, every pixel", [2, 3].into_iter().flat_map(every_pixel))?;
+    let whole = check("classify, every pixel", [0, 2, 3].into_iter().flat_map(every_pixel))?;
+    let each = check("classify, every pixel alone, setting 1", (0..1 << 24).map(alone))?;
     let (mut random, palette) = (Random::seeded(SEED), palette());
     let small = (0..BY_CHANCE).map(|_| by_chance(&mut random, &palette));
-    Ok(whole.and(check("classify, by chance", small)?))
+    let small = check("classify, by chance", small)?;
+    let runs = (0..BY_CHANCE).map(|_| in_runs(&mut random, &palette));
+    Ok(whole.and(each).and(small).and(check("classify, in runs", runs)?))
 }
 
-/// All pixels under one setting, the first byte from block to block.
+/// One pixel, under the setting that refuses unknown ones: a picture is refused at the first.
+fn alone(number: u32) -> Classifying {
+    let pixels = number.to_be_bytes()[1..].to_vec();
+    Classifying { height: 1, width: 1, setting: 1, pixels, colours: 2, answer: 3 }
+}
+
+/// All pixels under a setting that makes them white or black, the first byte from block to block.
 fn every_pixel(setting: u8) -> impl Iterator<Item = Classifying> {
     (0..16u32).map(move |block| {
         let numbers = block << 20..(block + 1) << 20;
@@ -51,6 +60,24 @@ fn by_chance(random: &mut Random, palette: &[[u8; 3]]) -> Classifying {
         spoil(&mut case, random);
     }
     case
+}
+
+/// Runs of one pixel, about as long as the stretches that the port takes at once, and here and there a byte that differs.
+fn in_runs(random: &mut Random, palette: &[[u8; 3]]) -> Classifying {
+    let (height, width) = (1 + random.below(3) as usize, 1 + random.below(160) as usize);
+    let strange = random.pick(&[0, 0, 4, 16]);
+    let mut pixels = vec![];
+    while pixels.len() < 3 * height * width {
+        let pixel = pixel(random, palette, strange);
+        pixels.extend(pixel.repeat(random.pick(&[1, 2, 31, 32, 33, 64, 65, 200])));
+    }
+    pixels.truncate(3 * height * width);
+    if random.one_in(2) {
+        let byte = random.below(pixels.len() as u32) as usize;
+        pixels[byte] = random.pick(&[0x00, 0xC0, 0xFF, 0x80]);
+    }
+    let (setting, answer) = (random.below(4) as u8, 2);
+    Classifying { height, width, setting, pixels, colours: height * width + 1, answer }
 }
 
 /// One of the twenty, or one in so many times a neighbour of it.

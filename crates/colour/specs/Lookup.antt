@@ -1,0 +1,26 @@
+-- Inner: the two tables in which the code looks a colour up. No public contract cites it. Assumes nothing.
+use mathlib.Core.Bool.{cond}
+use mathlib.Core.List.{List, [], _∷_, map}
+use Prim.Native.Nat.{ℕ, zero, suc, _+_, _*_, _%_}
+use lib.Dec.{eqb}
+use Rattle.colour.specs.Palette.{Rgb, rgb, palette}
+
+-- three bytes as one number
+abbrev pub joinedOf : Rgb → ℕ
+joinedOf (rgb r g b) = 65536 * r + 256 * g + b
+
+-- the palette by number
+abbrev pub rows : List ℕ
+rows = map joinedOf palette
+
+-- for each remainder by 53 the first row that has it, and row 0 where there is none
+abbrev pub firstWith : ℕ → List Rgb → ℕ → ℕ
+firstWith n [] i = 0
+firstWith n (q ∷ qs) i = cond (eqb (joinedOf q % 53) n) i (firstWith n qs (suc i))
+
+abbrev pub likelyFrom : ℕ → ℕ → List ℕ
+likelyFrom zero n = []
+likelyFrom (suc count) n = firstWith n palette 0 ∷ likelyFrom count (suc n)
+
+abbrev pub likelyRows : List ℕ
+likelyRows = likelyFrom 53 0
