@@ -16,7 +16,7 @@ pub enum Refusal {
     Setting,
     /// 4: a lent slice is too short.
     Room,
-    /// 5: a pixel is none of the twenty colours, and it was not said what becomes of it.
+    /// 5: a pixel is none of the twenty colours, under [`crate::Unknown::Refused`].
     Pixel {
         /// The row of the first such pixel.
         row: usize,

@@ -26,7 +26,6 @@ use Rattle.interpreter.specs.Outcome.{slicesOf, endedOf}
 use Rattle.piet.specs.RunPicture.{Lends, lends, askedPicture, RanPicture}
 use Rattle.piet.specs.RunPicture as running
 use Rattle.piet.proofs.Refusing as picture
-use Rattle.colour.specs.Setting.{refusing}
 use Rattle.piet.proofs.Seeing.{legal-under}
 use Rattle.job.specs.Encoding.{Content}
 use Rattle.answer.specs.Answer.{askedOf, refusalOf, runRoom, Ran, endText}
@@ -118,7 +117,7 @@ module _ (c : Content) {l l′ : Lends} {e : End} (s : Sized l) (s′ : Sized l�
         few = omega (arith, region-in);
         there = omega (arith, region-in, s′ .rows);
         legal = record {
-          colour-in = rw colour-is (legal-at (p .colours) (legal-under (c .pixels) refusing) _);
+          colour-in = rw colour-is (legal-at (p .colours) (legal-under (c .pixels) (askedOf c .setting)) _);
           row-in = rw row-is (omega arith);
           column-in = rw column-is (omega arith);
         };

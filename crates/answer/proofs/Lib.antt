@@ -4,4 +4,4 @@ pub mod Slices
 pub mod Ending
 pub mod Answering
 pub mod Only
-pub mod Examples
+pub mod UnknownPixels

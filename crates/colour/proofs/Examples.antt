@@ -36,10 +36,6 @@ pub by-setting :
 unfolding answer refusals unknownPixel knownFirst first coloursUnder found pixelsOf colourOf numberIn colourUnder
 by-setting = (refl, refl, (refl, (refl, refl, (refl, refl, refl))))
 
--- 19 and 18 have the page's bytes of white and black (rule 14.1)
-pub white-and-black : (getD palette 19 (rgb 0 0 1) ≡ rgb 0xFF 0xFF 0xFF) × (getD palette 18 (rgb 0 0 1) ≡ rgb 0 0 0)
-white-and-black = (refl, refl)
-
 pub labels :
     (labelOf 6 0 1 ≡ ascii "RegRed_0_1") × ((labelOf 17 1023 1010 ≡ ascii "LightMagenta_1023_1010") × (labelOf 18 0 0 ≡ ascii "Entry"))
 unfolding labelOf name place decimal digits

@@ -1,5 +1,5 @@
 -- Laws of pixels that are all alike. Assumes nothing.
-use mathlib.Core.Path.{_≡_, _∙_, sym, ap, refl}
+use mathlib.Core.Path.{_≡_, _∙_, sym, ap}
 use mathlib.Core.Bool.{Bool, true, false}
 use mathlib.Core.List.{List, _++_, map}
 use mathlib.Core.Logic.{by-cases}
@@ -9,9 +9,7 @@ use native.Mathlib.Nat.{add-zero}
 use native.Mathlib.Omega.{arith}
 use lib.ListN.{length, getD, take, drop, set, length-append, length-drop, length-map, List·getD-append}
 use lib.Seq.{length-take-le, getD-take}
-use Rattle.colour.specs.declared.palette.Found.{Found}
-use Rattle.colour.specs.declared.palette.Found.the-variants.{Known, Unknown}
-use Rattle.colour.specs.Palette.{rgb, colourOf}
+use Rattle.colour.specs.declared.palette.Found.the-variants.{Unknown}
 use Rattle.colour.specs.Classify.{found, knownFirst, colourUnder}
 use Rattle.colour.specs.Stretch.{RepeatedBytes, Repeats}
 use Rattle.base.specs.Decides.{Decides}
@@ -26,14 +24,14 @@ none-yet p from k h l = absurd (omega arith)
 
 module _ (p : List ℕ) (from j : ℕ) (begun : from ≤ j) (past : 3 ≤ j) where
   -- one byte more that stands three places before too
-  pub one-more : getD p j 0 ≡ getD p (j - 3) 0 → RepeatedBytes p from j → RepeatedBytes p from (j + 1)
+  one-more : getD p j 0 ≡ getD p (j - 3) 0 → RepeatedBytes p from j → RepeatedBytes p from (j + 1)
   one-more e r k h l = by-cases (decLt k j) (λ s. r k h s) (λ s. let q : k ≡ j = omega arith in rw q (past, e))
 
   -- and one that does not
   pub differs : (getD p j 0 ≡ getD p (j - 3) 0 → ⊥) → RepeatedBytes p from (j + 1) → ⊥
   differs d r = d (r j begun (omega arith) .1)
 
-  pub fewer : RepeatedBytes p from (j + 1) → RepeatedBytes p from j
+  fewer : RepeatedBytes p from (j + 1) → RepeatedBytes p from j
   fewer r k h l = r k h (omega arith)
 
   -- the test after one byte more
@@ -59,7 +57,7 @@ module _ (p : List ℕ) (from to : ℕ) (r : Repeats p from to) (some : from < t
   pub not-first : 1 ≤ from
   not-first = let h = r (3 * from) (omega arith) (omega arith) .0 in omega arith
 
-  -- a pixel that is the pixel before it has its colour
+  -- a pixel with the bytes of the one before it has its colour
   same-colour : (i : ℕ) → from ≤ i → i < to → getD (found p) i Unknown ≡ getD (found p) (i - 1) Unknown
   same-colour i h l =
       let a = r (3 * i) (omega arith) (omega arith) in

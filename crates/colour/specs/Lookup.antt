@@ -10,17 +10,21 @@ abbrev pub joinedOf : Rgb → ℕ
 joinedOf (rgb r g b) = 65536 * r + 256 * g + b
 
 -- the palette by number
-abbrev pub rows : List ℕ
-rows = map joinedOf palette
+abbrev pub paletteRows : List ℕ
+paletteRows = map joinedOf palette
 
--- for each remainder by 53 the first row that has it, and row 0 where there is none
+-- the twenty numbers have twenty remainders by it
+abbrev pub divisor : ℕ
+divisor = 53
+
+-- for each remainder the first row that has it, and row 0 where there is none
 abbrev pub firstWith : ℕ → List Rgb → ℕ → ℕ
 firstWith n [] i = 0
-firstWith n (q ∷ qs) i = cond (eqb (joinedOf q % 53) n) i (firstWith n qs (suc i))
+firstWith n (q ∷ qs) i = cond (eqb (joinedOf q % divisor) n) i (firstWith n qs (suc i))
 
 abbrev pub likelyFrom : ℕ → ℕ → List ℕ
 likelyFrom zero n = []
 likelyFrom (suc count) n = firstWith n palette 0 ∷ likelyFrom count (suc n)
 
 abbrev pub likelyRows : List ℕ
-likelyRows = likelyFrom 53 0
+likelyRows = likelyFrom divisor 0

@@ -1,5 +1,5 @@
--- The settings for unknown pixels, pixels that are none of the twenty colours: the one place that says what each does (rule
--- 1.2). Assumes nothing.
+-- The settings for unknown pixels, those that are none of the twenty colours (rule 1.2): the one place that says what each
+-- does. Assumes nothing.
 use mathlib.Core.Bool.{Bool, cond}
 use Prim.Native.Nat.{ℕ}
 use lib.Dec.{eqb, ltb}

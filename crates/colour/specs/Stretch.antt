@@ -8,6 +8,6 @@ use lib.ListN.{getD}
 abbrev pub RepeatedBytes : List ℕ → ℕ → ℕ → Type 0
 RepeatedBytes pixels from to = (k : ℕ) → from ≤ k → k < to → (3 ≤ k) × (getD pixels k 0 ≡ getD pixels (k - 3) 0)
 
--- each pixel from one up to another is the pixel before it
+-- each pixel from one up to another has the bytes of the one before it
 abbrev pub Repeats : List ℕ → ℕ → ℕ → Type 0
 Repeats pixels from to = RepeatedBytes pixels (3 * from) (3 * to)

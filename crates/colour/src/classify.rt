@@ -7,7 +7,7 @@ ghost use mathlib.Core.Bool.{true};
 ghost use mathlib.Core.List.{[], _∷_};
 ghost use Rattle.base.specs.Lent.{lent};
 ghost use Rattle.base.specs.Numbers.{numbers, first};
-ghost use Rattle.colour.specs.Lookup.{rows, likelyRows};
+ghost use Rattle.colour.specs.Lookup.{paletteRows, likelyRows};
 ghost use Rattle.colour.specs.Classify.{
   Outcome,
   numbered,
@@ -77,7 +77,7 @@ pub fn in_numbers(r: Classified) -> Told
 
 // What the palette says of pixel i.
 fn found_in(palette: &[u32], likely: &[u8], pixels: &[u8], i: usize) -> Found
-    requires { ⌜ ((now palette ≡ rows) × (now likely ≡ likelyRows)) × (3 * i + 2 < length (now pixels)) ⌝ }
+    requires { ⌜ ((now palette ≡ paletteRows) × (now likely ≡ likelyRows)) × (3 * i + 2 < length (now pixels)) ⌝ }
     ensures { λ f. ⌜ f ≡ getD (found (now (pixels .entry))) i Unknown ⌝ }
 {
     let at = 3 * i;
@@ -94,7 +94,7 @@ pub fn found_at(pixels: &[u8], i: usize) -> Found
     found_in(&palette, &likely, pixels, i)
 }
 
-// How many of the n pixels stand before the first that is not in the table.
+// How many of the n pixels stand before the first that is unknown.
 fn known_first(pixels: &[u8], n: usize) -> usize
     requires { ⌜ length (now pixels) ≡ 3 * n ⌝ }
     ensures { λ k. ⌜ k ≡ knownFirst (found (now (pixels .entry))) ⌝ }
@@ -159,7 +159,7 @@ pub fn check(pixels: &[u8], height: usize, width: usize, setting: u8, room: usiz
     Classified::Done
 }
 
-// The colour number that a setting makes of what the table says.
+// The colour number that a setting makes of what the palette says.
 pub fn colour_under(setting: u8, f: Found) -> u8
     ensures { λ r. ⌜ r ≡ colourUnder setting f ⌝ }
 {

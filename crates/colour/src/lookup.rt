@@ -1,8 +1,7 @@
 // Which of the twenty colours three bytes are.
 ghost use mathlib.Core.Path.{_≡_};
-ghost use Prim.Native.Nat.{_+_, _*_};
 ghost use Rattle.colour.specs.Palette.{rgb, colourOf};
-ghost use Rattle.colour.specs.Lookup.{rows, likelyRows};
+ghost use Rattle.colour.specs.Lookup.{joinedOf, paletteRows, likelyRows};
 use crate::palette::Found;
 
 // Where to look for a colour: the remainder by 53 tells the twenty apart. A remainder that none of them has leads to row 0, which
@@ -65,7 +64,7 @@ pub const LIKELY: [u8; 53] = [
 
 // Three bytes as one number.
 fn joined(r: u8, g: u8, b: u8) -> u32
-    ensures { λ n. ⌜ n ≡ 65536 * r + 256 * g + b ⌝ }
+    ensures { λ n. ⌜ n ≡ joinedOf (rgb r g b) ⌝ }
 {
     65536 * (r as u32) + 256 * (g as u32) + b as u32
 }
@@ -74,7 +73,7 @@ fn joined(r: u8, g: u8, b: u8) -> u32
 // own bytes, so bytes that differ from theirs are in no row. The tables are lent, since a constant table is made anew
 // wherever the code names it, and pixels are many.
 pub fn colour_of(palette: &[u32], likely: &[u8], r: u8, g: u8, b: u8) -> Found
-    requires { ⌜ (now palette ≡ rows) × (now likely ≡ likelyRows) ⌝ }
+    requires { ⌜ (now palette ≡ paletteRows) × (now likely ≡ likelyRows) ⌝ }
     ensures { λ f. ⌜ f ≡ colourOf (rgb r g b) ⌝ }
 {
     let bytes = joined(r, g, b);

@@ -11,9 +11,9 @@ pub enum Done {
 /// The room that the rules give the run program.
 const ROOM: Room = Room { stack: 256, outputs: 256 };
 const PIXELS: u32 = 512;
+const JOB: usize = 8_192;
 /// Its setting for unknown pixels.
 const REFUSE_UNKNOWN: u8 = 1;
-const JOB: usize = 8_192;
 
 struct Job<'a> {
     height: u32,

@@ -89,11 +89,12 @@ fn unknown_pixels_by_setting() {
     assert_eq!(told(Unknown::Black), Ok((Status::Completed, 0)));
 }
 
-/// Where a run would start, it is refused as unknown or as white.
+/// Where a run would start, it is refused as unknown or as white; made black it runs.
 #[test]
 fn an_unknown_first_pixel() {
     let told = |unknown| {
-        run_pixels(Picture { unknown, ..Picture::of(&UNKNOWN, row_of(1)) }, TERMS, CELLS).map(|told| told.ended.status)
+        run_pixels(Picture { unknown, ..Picture::of(&UNKNOWN, row_of(1)) }, TERMS, CELLS)
+            .map(|told| told.ended.status)
     };
     assert_eq!(told(Unknown::Refused), Err(Error::Refused(Refusal::Pixel { row: 0, column: 0 })));
     assert_eq!(told(Unknown::Default), Err(Error::Refused(Refusal::White)));

@@ -23,7 +23,7 @@ const EXITS: [u32; 16] = [524_290, 589_826, 0, 0, 0, 0, 0, 0, 0, 0, 0, 0, 1_310_
 #[test]
 fn call_by_call() {
     let mut colours = [PATTERN; 3];
-    classify(&pixels(&COLOURS), (1, 2), Unknown::Default, &mut colours).unwrap();
+    classify(&pixels(&COLOURS), (1, 2), Unknown::Refused, &mut colours).unwrap();
     assert_eq!(colours, [12, 6, PATTERN]);
 
     for edition in Edition::ALL {

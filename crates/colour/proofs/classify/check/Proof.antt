@@ -37,7 +37,7 @@ room c =
     let a = begin c .args in
     area (side (a .height) (neither _ (wrongSide (a .width)) (sides c) .0) .1) (wide c .1)
 
--- the setting is one
+-- the number is a setting
 named : (c : tie.Else3) → noSetting (begin (c .before .before) .args .setting) ≡ false
 named c = sym (c .before .no-setting .ensures) ∙ c .if3 .left
 

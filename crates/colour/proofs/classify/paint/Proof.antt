@@ -1,4 +1,4 @@
--- `colour::classify::paint` meets its contract: after i turns the first i colours are written, and the others are as they were.
+-- `colour::classify::paint` meets its contract: the first i colours are written, and the others are as they were.
 -- Assumes nothing.
 use mathlib.Core.Path.{_≡_, _∙_, sym, ap, refl}
 use mathlib.Core.List.{List, _++_, map}

@@ -1,7 +1,6 @@
 -- `colour::stretch::alike` meets its contract: of no pixels there is nothing to show, and of a stretch `repeats` says it.
 -- Assumes nothing.
 use native.Mathlib.Omega.{arith}
-use Rattle.colour.proofs.StretchLaws.{none-yet}
 use borrow.Author.Needs.{needs}
 use Rattle.colour.proofs.stretch.alike.Statement.{statement}
 use Rattle.colour.proofs.stretch.alike.Tie as tie

@@ -40,7 +40,7 @@ fn worst(side: usize, setting: (u8, UnknownPixelSettings)) -> [f64; 2] {
 fn both(
     pixels: &[[u8; 3]],
     side: usize,
-    (number, unknown): (u8, UnknownPixelSettings),
+    (setting, unknown): (u8, UnknownPixelSettings),
 ) -> [f64; 2] {
     let rust = fastest(|| -> Vec<Lightness> {
         pixels.iter().map(|&p| Given::rgb_to_lightness(&Rgb(p), unknown)).collect()
@@ -48,7 +48,7 @@ fn both(
     let (mut colours, mut answer) = (vec![0; side * side], [0; 2]);
     let bytes = pixels.as_flattened();
     let ours = fastest(|| {
-        let number = library::classify(bytes, (side, side), number, &mut colours, &mut answer);
+        let number = library::classify(bytes, (side, side), setting, &mut colours, &mut answer);
         assert_eq!(number, 0);
     });
     [rust, ours].map(|seconds| seconds * 1e9 / pixels.len() as f64)
