@@ -2,7 +2,6 @@
 use mathlib.Core.Path.{_≡_, refl}
 use mathlib.Core.List.{List, [], _∷_, map}
 use Prim.Native.Nat.{ℕ}
-use lib.ListN.{getD}
 use Rattle.colour.specs.declared.palette.Found.the-variants.{Known, Unknown}
 use Rattle.colour.specs.Palette.{rgb, palette, colourOf, numberIn, pixelsOf}
 use Rattle.base.specs.Numbers.{numbers, first}

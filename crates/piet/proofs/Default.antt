@@ -6,7 +6,7 @@ use native.Mathlib.Omega.{arith}
 use lib.ListN.{length, take}
 use Rattle.base.specs.Edition.{editionOf}
 use Rattle.base.specs.Lent.{lent}
-use Rattle.base.specs.Numbers.{Row, numbers, first}
+use Rattle.base.specs.Numbers.{numbers, first}
 use Rattle.base.proofs.Refusals.{refused as not-zero, another, no-row}
 use Rattle.colour.specs.Classify as classifying
 use Rattle.colour.specs.Classify.{coloursUnder}
