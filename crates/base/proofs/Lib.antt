@@ -3,6 +3,7 @@ pub mod Only
 pub mod Clash
 pub mod Refusals
 pub mod Tests
+pub mod CountingLaws
 pub mod Pigeonhole
 pub mod Sides
 pub mod Table

@@ -1,12 +1,12 @@
 -- Laws of a list with a word written over it. Assumes nothing.
-use mathlib.Core.Path.{_≡_, _∙_, sym, ap}
+use mathlib.Core.Path.{_≡_, _∙_, sym, ap, ap₂}
 use mathlib.Core.List.{List, [], _∷_, _++_, append-assoc, append-nil}
 use Prim.Native.Nat.{ℕ, suc, _+_, _-_, _<_, _≤_}
 use native.Mathlib.Nat.{zero-add, add-assoc, sub-self, add-zero}
 use native.Mathlib.Numerals.{add-one}
 use native.Mathlib.Omega.{arith}
-use lib.ListN.{length, take, drop, set, length-append, length-take, length-drop, replicate, length-replicate, replicate-append-replicate, take-append-drop}
-use lib.Seq.{take-at, drop-append-add, drop-drop, set-split, append-snoc, paste, take-length}
+use lib.ListN.{length, getD, take, drop, set, List·getD-append, length-append, length-take, length-drop, replicate, length-replicate, replicate-append-replicate, take-append-drop}
+use lib.Seq.{take-at, drop-append-add, getD-drop, getD-append-add, drop-drop, set-split, append-snoc, paste, take-length}
 use Rattle.base.specs.Lent.{over, lent, filled, Room, Put}
 
 module _ {A : Type 0} where
@@ -71,6 +71,35 @@ module _ {A : Type 0} where
       ap (λ (k : ℕ). over d 0 (replicate k v)) e
       ∙ over-zero d (replicate n v)
       ∙ ap (λ (k : ℕ). replicate n v ++ drop k d) (length-replicate n v)
+
+-- what stands at the start of a lent list
+module _ {A : Type 0} (w d : List A) where
+  pub lent-length : length w ≤ length d → length (lent w d) ≡ length d
+  lent-length h = ap length (sym (over-zero d w)) ∙ over-length d 0 w (omega arith)
+
+  pub lent-front : (z : A) (i : ℕ) → i < length w → getD (lent w d) i z ≡ getD w i z
+  unfolding lent
+  lent-front z i h = List·getD-append w (drop (length w) d) z i h
+
+  pub lent-past : (z : A) (i : ℕ) → length w ≤ i → getD (lent w d) i z ≡ getD d i z
+  unfolding lent
+  lent-past z i h =
+      let e : length w + (i - length w) ≡ i = omega arith in
+      ap (λ (k : ℕ). getD (w ++ drop (length w) d) k z) (sym e)
+      ∙ getD-append-add w (drop (length w) d) (i - length w) z
+      ∙ getD-drop (length w) d (i - length w) z
+      ∙ ap (λ (k : ℕ). getD d k z) e
+
+  -- and more is written after it
+  pub lent-after : (v : List A) → length w ≤ length d → over (lent w d) (length w) v ≡ lent (w ++ v) d
+  lent-after v h =
+      ap₂ (λ x k. over x k v) (sym (over-zero d w)) (sym (zero-add (length w)))
+      ∙ over-over d 0 w v (omega arith)
+      ∙ over-zero d (w ++ v)
+
+pub filled-lent : {A : Type 0} (d : List A) (n : ℕ) (v : A) → filled 0 n v d ≡ lent (replicate n v) d
+unfolding lent
+filled-lent d n v = filled-zero d n v ∙ ap (λ (k : ℕ). replicate n v ++ drop k d) (sym (length-replicate n v))
 
 pub put-put : {d d′ d″ v w : List ℕ} {at r s : ℕ} → at + length v ≤ length d → Put d at v r d′ → Put d′ r w s d″ → Put d at (v ++ w) s d″
 put-put {d} {d′} {d″} {v} {w} {at} {r} {s} h p q =

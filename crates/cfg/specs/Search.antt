@@ -17,7 +17,6 @@ use Rattle.colour.specs.Palette.{white}
 use Rattle.colour.specs.Decode.{decodeOf}
 use Rattle.picture.specs.Picture.{Picture, Inside, rowsOf, colsOf, codels, colourAt, codelColour, Sound}
 use Rattle.table.specs.Layout.{colourField, markField, rowCell, exitCell, rowsRoom, exitsRoom, fieldAt, exitAt, markOf}
-use Rattle.region.specs.Tally.{more}
 use Rattle.region.specs.Grid.{gridOf}
 use Rattle.region.specs.Region.{IsMap}
 use Rattle.region.specs.Rows.{IsTable}
@@ -30,7 +29,7 @@ use Rattle.table.specs.ExitNumber.{exitNumber, lostSlide}
 -- how many of the first n regions have no mark
 unfoldable pub bare : ℕ → List ℕ → ℕ
 bare zero rows = 0
-bare (suc n) rows = more (eqb (markOf rows n) 0) (bare n rows)
+bare (suc n) rows = cond (eqb (markOf rows n) 0) 1 0 + bare n rows
 
 -- a row for each cell of the work slice, and room in it for each region without a mark
 pub record Room (rows work : List ℕ) (tail : ℕ) : Type 0 where

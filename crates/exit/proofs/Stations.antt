@@ -12,7 +12,9 @@ use borrow.Author.Tests.{eqb-true, eq-eqb}
 use lib.Arith.{digits-lt, digits-div, digits-mod}
 use lib.Dec.{eqb}
 use lib.ListN.{length}
-use Rattle.base.proofs.Pigeonhole.{count, Distinct, Below, none, more, distinct-none, distinct-more, pigeonhole}
+use Rattle.base.specs.Counting.{count}
+use Rattle.base.proofs.CountingLaws.{Below, none, more}
+use Rattle.base.proofs.Pigeonhole.{Distinct, distinct-none, distinct-more, pigeonhole}
 use Rattle.base.proofs.Tests.{neither}
 use Rattle.flow.specs.Pointer.{Valid, turnedOnce}
 use Rattle.flow.proofs.Order.{valid-turned}

@@ -4,6 +4,7 @@ pub mod Executing
 pub mod Fitting
 pub mod Skipping
 pub mod Judging
+pub mod Facing
 pub mod Unique
 pub mod Only
 pub mod Examples

@@ -1,42 +1,32 @@
 -- How many of a list's first elements are x, as the list is written to.
 -- Assumes nothing.
-use mathlib.Core.Path.{_≡_, refl, ap, _∙_}
+use mathlib.Core.Path.{_≡_, refl}
+use mathlib.Core.Bool.{cond}
 use mathlib.Core.Logic.{_≢_}
-use mathlib.Core.Bool.{Bool, true, false}
 use mathlib.Core.List.{List, [], _∷_}
 use Prim.Native.Nat.{ℕ, zero, suc, _+_, _≤_, _<_, suc-le-suc}
 use native.Mathlib.Numerals.{add-one}
 use native.Mathlib.Nat.{not-suc-le-zero, le-of-suc-le-suc}
 use native.Mathlib.Omega.{arith}
 use lib.Dec.{eqb}
-use lib.ListN.{length, getD, set}
+use lib.ListN.{length, getD, set, take, length-take}
 use borrow.Author.Tests.{eq-eqb, ne-eqb}
-use Rattle.region.specs.Tally.{more, tally}
-
-more-step : (b : Bool) (p : ℕ) {q : ℕ} → p + 1 ≡ q → more b p + 1 ≡ more b q
-unfolding more
-more-step true p e = omega arith
-more-step false p e = e
-
-more-most : (b : Bool) {p q : ℕ} → p ≤ q → more b p ≤ suc q
-unfolding more
-more-most true e = omega arith
-more-most false e = omega arith
+use Rattle.base.specs.Counting.{count}
+use Rattle.base.proofs.CountingLaws.{count-most}
+use Rattle.region.specs.Tally.{tally}
 
 pub tally-most : (x n : ℕ) (l : List ℕ) → tally x n l ≤ n
-unfolding tally more
-tally-most x zero l = omega arith
-tally-most x (suc n) [] = omega arith
-tally-most x (suc n) (y ∷ l) = more-most (eqb y x) (tally-most x n l)
+unfolding tally
+tally-most x n l = omega (arith, count-most x (take n l), length-take n l)
 
 -- an x that is overwritten is one less
 pub tally-set : (x n : ℕ) (l : List ℕ) (j k : ℕ) → j < n → j < length l → getD l j 0 ≡ x → k ≢ x
     → tally x n (set l j k) + 1 ≡ tally x n l
-unfolding tally more
+unfolding tally count
 tally-set x zero l j k h i e d = absurd (not-suc-le-zero h)
 tally-set x (suc n) [] j k h i e d = absurd (not-suc-le-zero i)
 tally-set x (suc n) (y ∷ l) zero k h i e d = rw (eq-eqb y x e, ne-eqb k x d) (omega arith)
-tally-set x (suc n) (y ∷ l) (suc j) k h i e d = more-step (eqb y x) (tally x n (set l j k)) (tally-set x n l j k (le-of-suc-le-suc h) (le-of-suc-le-suc i) e d)
+tally-set x (suc n) (y ∷ l) (suc j) k h i e d = omega (arith, tally-set x n l j k (le-of-suc-le-suc h) (le-of-suc-le-suc i) e d)
 
 -- where x stands, there is one
 pub tally-some : (x n : ℕ) (l : List ℕ) (j : ℕ) → j < n → j < length l → getD l j 0 ≡ x → 1 ≤ tally x n l
@@ -44,30 +34,21 @@ tally-some x n l j h i e =
     let d : x + 1 ≢ x = omega arith in
     omega (arith, tally-set x n l j (x + 1) h i e d)
 
-more-swap : (a b : Bool) (n : ℕ) → more a (more b n) ≡ more b (more a n)
-unfolding more
-more-swap true true n = refl
-more-swap true false n = refl
-more-swap false b n = refl
-
 -- one element more
-pub tally-suc : (x n : ℕ) (l : List ℕ) → n < length l → tally x (suc n) l ≡ more (eqb (getD l n 0) x) (tally x n l)
-unfolding tally more
+tally-suc : (x n : ℕ) (l : List ℕ) → n < length l → tally x (suc n) l ≡ cond (eqb (getD l n 0) x) 1 0 + tally x n l
+unfolding tally count
 tally-suc x n [] h = absurd (not-suc-le-zero h)
 tally-suc x zero (y ∷ l) h = refl
-tally-suc x (suc n) (y ∷ l) h =
-    ap (more (eqb y x)) (tally-suc x n l (le-of-suc-le-suc h)) ∙ more-swap (eqb y x) (eqb (getD l n 0) x) (tally x n l)
+tally-suc x (suc n) (y ∷ l) h = omega (arith, tally-suc x n l (le-of-suc-le-suc h))
 
 pub tally-hit : (x n : ℕ) (l : List ℕ) → n < length l → getD l n 0 ≡ x → tally x (n + 1) l ≡ tally x n l + 1
-unfolding more
 tally-hit x n l h e = rw (add-one n, tally-suc x n l h, eq-eqb (getD l n 0) x e) (omega arith)
 
 pub tally-miss : (x n : ℕ) (l : List ℕ) → n < length l → getD l n 0 ≢ x → tally x (n + 1) l ≡ tally x n l
-unfolding more
-tally-miss x n l h e = rw (add-one n, tally-suc x n l h, ne-eqb (getD l n 0) x e)
+tally-miss x n l h e = rw (add-one n, tally-suc x n l h, ne-eqb (getD l n 0) x e) (omega arith)
 
 pub tally-none : (x n : ℕ) (l : List ℕ) → ((j : ℕ) → j < n → getD l j 0 ≢ x) → tally x n l ≡ 0
-unfolding tally more
+unfolding tally count
 tally-none x zero l h = refl
 tally-none x (suc n) [] h = refl
-tally-none x (suc n) (y ∷ l) h = rw (ne-eqb y x (h 0 (omega arith))) (tally-none x n l (λ j k. h (suc j) (suc-le-suc k)))
+tally-none x (suc n) (y ∷ l) h = rw (ne-eqb y x (h 0 (omega arith))) (omega (arith, tally-none x n l (λ j k. h (suc j) (suc-le-suc k))))
