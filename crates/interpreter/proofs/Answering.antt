@@ -2,6 +2,7 @@
 --     answer-unknown, answer-wrong, answer-right, test-call    by the tests of the edition and of the table
 --     run-refuses, run-finishes    what `run` answers and leaves is its outcome
 --     refuses, finishes            and the other way round: what its outcome says
+--     status-some                  no status is 0
 --     result-cells                 a result has as many numbers as its cells say
 --     forever-refuses, forever-is  the answer of `determine_runs_forever`
 -- Assumes nothing.
@@ -34,7 +35,7 @@ use Rattle.interpreter.specs.Outcome.{slicesOf, endedOf, resultOf, resul
 pub result-cells : (e : Ended) → length (resultOf e) ≡ resultCells
 result-cells e = refl
 
-status-some : (s : Stop) → statusOf s ≡ 0 → ⊥
+pub status-some : (s : Stop) → statusOf s ≡ 0 → ⊥
 unfolding statusOf
 status-some Completed e = omega arith
 status-some MaxSteps e = omega arith

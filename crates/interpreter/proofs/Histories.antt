@@ -1,6 +1,8 @@
 -- The history of a run.
 --     run-history      a run comes to its end by a list of exits that is as long as the steps made
 --     history-only     so many exits from one place are one list, and lead to one place
+--     histories-same   a run has one history
+--     history-more     one step more
 --     history-skips    of each reason as many number lines are counted as its steps skipped for it
 --     run-few          and all in all no more than steps were made
 --     step-judged, run-judged    reading stands where it may after a step, and after a run (rule 16.4)
@@ -13,7 +15,7 @@
 use mathlib.Core.Path.{_≡_, refl, sym, ap, subst, _∙_}
 use mathlib.Core.Bool.{Bool, true, false, cond}
 use mathlib.Core.Logic.{_⊎_, inl, inr}
-use mathlib.Core.List.{List, [], _∷_, map}
+use mathlib.Core.List.{List, [], _∷_, _++_, map}
 use Prim.Native.Nat.{ℕ, zero, suc, _+_, _<_, _≤_}
 use native.Mathlib.Omega.{arith}
 use lib.ListN.{length, getD}
@@ -26,7 +28,7 @@ use Rattle.text.proofs.Judging.{judged-start}
 use Rattle.machine.specs.Counts.{countOf, total, times}
 use Rattle.machine.specs.Machine.{underLimit, JudgedIn, Out, keeps, stops, fitting, withPointers}
 use Rattle.machine.specs.Skipped.{skipped}
-use Rattle.machine.specs.Place.{Machine, start}
+use Rattle.machine.specs.Place.{Machine, start, End}
 use Rattle.machine.proofs.Fitting.{fit-kept, fit-stops, fit-bad, not-limit, exec-limit}
 use Rattle.machine.proofs.Skipping.{exec-counts, exec-total, skipped-same, times-append}
 use Rattle.machine.proofs.Judging.{exec-judged, exec-bad-first}
@@ -212,6 +214,13 @@ module _ (j : Job) where
       let z : a ≡ b = cc in
       let r = history-only p (subst (λ (x : Machine). Passes j x ws′ m″) (sym z) p′) (omega arith) in
       (ap (λ (x : List ℕ). exitFrom j m ∷ x) (r .0), r .1)
+
+  pub histories-same : {k : ℕ} {m : Machine} {e : End} (h h′ : History j k m e) → h .exits ≡ h′ .exits
+  histories-same h h′ = history-only (h .passes) (h′ .passes) (omega (arith, h .counted, h′ .counted)) .0
+
+  pub history-more : {m m′ m″ : Machine} {ws : List ℕ} → Passes j m ws m′ → stepOf j m′ ≡ goes m″ → Passes j m (ws ++ (exitFrom j m′ ∷ [])) m″
+  history-more stays e = passes e stays
+  history-more (passes s p) e = passes s (history-more p e)
 
   pub history-ends : {m m′ : Machine} {ws : List ℕ} → Passes j m ws m′ → m′ .region ≡ getD (regionsOf m ws) (length ws) 0
   history-ends stays = refl

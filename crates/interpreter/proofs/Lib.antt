@@ -6,6 +6,7 @@ pub mod RunLaws
 pub mod Settled
 pub mod Answering
 pub mod Histories
+pub mod Entering
 pub mod Resuming
 pub mod Only
 pub mod Examples

@@ -2,7 +2,8 @@
 --     run                       run-only
 --     resume                    resume-only
 --     determine_runs_forever    forever-only
---     valid                     `equation-only` of base's proofs/Only.antt
+--     step                      step-only
+--     begin, valid              `equation-only` of base's proofs/Only.antt
 -- and what the answers say:
 --     run-refusal               15 exactly where the edition is unknown, else 10 exactly where the table is not valid, and then
 --                               nothing changes
@@ -17,7 +18,10 @@ use lib.ListN.{getD}
 use Rattle.base.specs.declared.edition.Edition.the-variants.{Rust}
 use Rattle.base.specs.Edition.{unknownEdition, editionOf}
 use Rattle.base.specs.Numbers.{Numbers, numbers, numberOf, valuesOf, row, first}
+use Rattle.base.proofs.Clash.{clash}
 use Rattle.machine.specs.Machine.{Given, Asks}
+use Rattle.machine.specs.declared.Stop.the-variants.{MaxSteps}
+use Rattle.machine.specs.Place.{End}
 use Rattle.machine.specs.Held.{Slices}
 use Rattle.machine.proofs.Only.{AsLong}
 use Rattle.interpreter.specs.declared.State.{State}
@@ -28,7 +32,11 @@ use Rattle.interpreter.specs.declared.Forever.the-variants.{Refused, Yes
 use Rattle.interpreter.specs.Table.{wrongTable, validOf, every}
 use Rattle.interpreter.specs.Forever as Always
 use Rattle.interpreter.specs.Outcome.{refused, numbered, Outcome}
-use Rattle.interpreter.specs.Resume.{Resumed}
+use Rattle.interpreter.specs.declared.stepping.Moved.{Moved}
+use Rattle.interpreter.specs.declared.stepping.Moved.the-variants.{To, Halted}
+use Rattle.interpreter.specs.Run.{goes, halts}
+use Rattle.interpreter.specs.Resume.{machineOf, Resumed}
+use Rattle.interpreter.specs.Moving.{nextOf, After, Stepped}
 use Rattle.interpreter.proofs.Settled.{settled}
 use Rattle.interpreter.proofs.Answering.{Tested, unknown, wrong, right, test-call, answer-unknown, answer-wrong, answer-right, refuses, finishes}
 
@@ -79,6 +87,25 @@ module _ (n : ℕ) (rows exits : List ℕ) (g : Given) (l : Slices) (from : Stat
       let a = settled n _ l′ l r h p in
       let b = settled n _ l″ l r′ k q in
       (a .0 ∙ sym (b .0), a .1 ∙ sym (b .1))
+
+-- a call leaves the length of a lent slice as it is
+module _ (n : ℕ) (rows exits : List ℕ) (g : Given) (l : Slices) (at : State) where
+  pub step-only : (r r′ : Moved) {l′ l″ : Slices} → AsLong l′ l → AsLong l″ l
+      → Stepped n rows exits g l at l′ r → Stepped n rows exits g l at l″ r′ → (r ≡ r′) × (l′ ≡ l″)
+  unfolding nextOf After
+  step-only (To a) (To b) {l′} {l″} h k p q =
+      let z : goes (machineOf l′ a) ≡ goes (machineOf l″ b) = p .is ∙ sym (q .is) in
+      let m : machineOf l′ a ≡ machineOf l″ b = cc in
+      let e : End = record { stop = MaxSteps; at = machineOf l″ b } in
+      let x = settled n e l′ l (record { stop = MaxSteps; at = a }) h (record { placed = p .leaves .0; stop = refl; at = m }) in
+      let y = settled n e l″ l (record { stop = MaxSteps; at = b }) k (record { placed = q .leaves .0; stop = refl; at = refl }) in
+      (ap (λ (t : Ended). To (t .at)) (x .0 ∙ sym (y .0)), x .1 ∙ sym (y .1))
+  step-only (To a) (Halted s) {l′} h k p q = let z : goes (machineOf l′ a) ≡ halts s = p .is ∙ sym (q .is) in clash cc
+  step-only (Halted s) (To b) {l″ = l″} h k p q = let z : halts s ≡ goes (machineOf l″ b) = p .is ∙ sym (q .is) in clash cc
+  step-only (Halted s) (Halted t) h k p q =
+      let z : halts s ≡ halts t = p .is ∙ sym (q .is) in
+      let e : s ≡ t = cc in
+      (ap Halted e, p .leaves ∙ sym (q .leaves))
 
 -- the answer that its numbers name
 abbrev toldBy : Numbers → Forever

@@ -8,6 +8,7 @@ use lib.Seq.{take-suc, ext-getD, getD-drop}
 use lib.IntN.{ℤ, pos}
 use Rattle.stack.specs.Stack.{stackOf, Lies}
 use Rattle.stack.proofs.Cells.{stackOf-length}
+use Rattle.text.proofs.Judging.{judged-start}
 use Rattle.machine.specs.declared.Core.{Core}
 use Rattle.machine.specs.declared.Stop.{Stop}
 use Rattle.machine.specs.Output.{Emit, outsOf, Holds}
@@ -18,10 +19,10 @@ use Rattle.machine.proofs.Only.{AsLong}
 use Rattle.machine.proofs.Emitting.{outs-length}
 use Rattle.interpreter.specs.Run.{runOf}
 use Rattle.interpreter.specs.Outcome.{cellsOf, kindsOf, valuesOf, slicesOf, placeOf, endedOf, jobOf, endOf}
-use Rattle.interpreter.specs.Resume.{machineOf, Reaches, Placed}
+use Rattle.interpreter.specs.Resume.{machineOf, Begun, Reaches, Placed}
 use Rattle.interpreter.specs.declared.State.{State}
 use Rattle.interpreter.specs.declared.Ended.{Ended}
-use Rattle.interpreter.proofs.Clearing.{Clean}
+use Rattle.interpreter.proofs.Clearing.{replicated}
 use Rattle.interpreter.proofs.RunLaws.{same-job}
 use Rattle.interpreter.proofs.Histories.{run-judged}
 
@@ -106,23 +107,38 @@ pub reached-judged : (n : ℕ) (rows exits : List ℕ) (g : Given) (l l′ : Sli
     → Reaches n (runOf (jobOf rows exits g l) k m) l′ r → JudgedIn g (m .store .reading) → JudgedIn g (r .at .core .reading)
 reached-judged n rows exits g l l′ k m r q h = subst (λ (x : Machine). JudgedIn g (x .store .reading)) (sym (q .at)) (run-judged (jobOf rows exits g l) k m h)
 
--- slices that were cleared
-pub from-start : (n : ℕ) (rows exits : List ℕ) (g : Given) (l l₀ l′ : Slices) (r : Ended)
-    → AsLong l l₀ → Reaches n (runOf (jobOf rows exits g l) (g .terms .limit - 0) start) l′ r
-    → Reaches n (endOf rows exits g l₀) l′ r
-from-start n rows exits g l l₀ l′ r h q =
-    let limit : ℕ = g .terms .limit in
-    let e : limit - 0 ≡ limit = omega arith in
-    subst (λ (x : End). Reaches n x l′ r) (ap₂ (λ j k. runOf j k start) (same-job rows exits g {l = l} {l₀ = l₀} h) e) q
+-- ---- the start
 
-pub placed-start : (n : ℕ) (stack : List ℤ) (kinds : List ℕ) (values : List ℤ) → 0 < n → Clean (pos 0) stack
-    → Clean 0 kinds → Clean (pos 0) values → Placed n (slices stack kinds values) (placeOf start)
-placed-start n stack kinds values h s k v = record {
-  stands = record {
-    lies = record { room = omega arith; clean = λ i _. s i };
-    holds = record { kinds-room = omega arith; values-room = omega arith; kinds-clean = λ i _. k i; values-clean = λ i _. v i };
-    valid = record { dp = omega arith; cc = omega arith };
-  };
-  inside = h;
-  few = omega arith;
-}
+module _ {l l′ : Slices} {from : State} (b : Begun l l′ from) where
+  -- it is a place of every table
+  pub begun-placed : (n : ℕ) → 0 < n → Placed n l′ from
+  begun-placed n h =
+      subst (λ (x : Slices). Placed n x from) (sym (b .leaves)) (subst (λ (x : State). Placed n (slicesOf l (start .store)) x) (sym (b .at)) (record {
+        stands = record {
+          lies = record { room = omega arith; clean = λ i _. replicated (pos 0) (length (l .stack) - 0) i };
+          holds = record {
+            kinds-room = omega arith;
+            values-room = omega arith;
+            kinds-clean = λ i _. replicated 0 (length (l .kinds) - 0) i;
+            values-clean = λ i _. replicated (pos 0) (length (l .values) - 0) i;
+          };
+          valid = record { dp = omega arith; cc = omega arith };
+        };
+        inside = h;
+        few = omega arith;
+      }))
+
+  pub begun-judged : (g : Given) → JudgedIn g (from .core .reading)
+  begun-judged g = rw (b .at) (judged-start (g .terms .edition) (g .input))
+
+  pub begun-machine : machineOf l′ from ≡ start
+  unfolding stackOf outsOf
+  begun-machine = rw (b .at) refl
+
+  -- what is left to run from there is the run from the start
+  pub begun-run : (rows exits : List ℕ) (g : Given) → AsLong l′ l
+      → runOf (jobOf rows exits g l′) (g .terms .limit - from .steps) (machineOf l′ from) ≡ endOf rows exits g l
+  unfolding stackOf outsOf
+  begun-run rows exits g h =
+      let e : (limit : ℕ) → limit - 0 ≡ limit = λ limit. omega arith in
+      rw (b .at) (ap₂ (λ j k. runOf j k start) (same-job rows exits g {l = l′} {l₀ = l} h) (e (g .terms .limit)))

@@ -53,19 +53,25 @@ resultOf e =
 abbrev pub resultCells : ℕ
 resultCells = 12
 
--- a refusal has zeros beside its number (rule 12.1)
+-- a refusal has zeros beside its number (rule 12.1), as many as a result has cells
+abbrev pub refusedIn : ℕ → ℕ → Numbers
+refusedIn cells number = numbers number (replicate cells 0)
+
 abbrev pub refused : ℕ → Numbers
-refused number = numbers number (replicate resultCells 0)
+refused = refusedIn resultCells
 
 -- the answer in numbers (rules 8.5, 12.2)
 unfoldable pub numbered : Ran → Numbers
 numbered (Refused number) = refused number
 numbered (Finished e) = numbers 0 (resultOf e)
 
--- the refusals of the call, by the number of its edition: 15, then 10 (rule 12.6)
+-- the refusals of a call that runs a table, by the number of its edition: 15, then 10 (rule 12.6)
+abbrev pub refusalsIn : ℕ → ℕ → ℕ → List ℕ → List ℕ → List Row
+refusalsIn cells edition n rows exits =
+    row (unknownEdition edition) (refusedIn cells 15) ∷ row (wrongTable (editionOf edition) n rows exits) (refusedIn cells 10) ∷ []
+
 abbrev pub refusals : ℕ → ℕ → List ℕ → List ℕ → List Row
-refusals edition n rows exits =
-    row (unknownEdition edition) (refused 15) ∷ row (wrongTable (editionOf edition) n rows exits) (refused 10) ∷ []
+refusals = refusalsIn resultCells
 
 abbrev pub jobOf : List ℕ → List ℕ → Given → Slices → Job
 jobOf rows exits g l = record { rows = rows; exits = exits; given = g; room = roomOf l }

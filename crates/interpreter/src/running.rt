@@ -2,7 +2,7 @@
 ghost use Rattle.machine.specs.Machine.{given, JudgedIn, asks};
 ghost use Rattle.machine.specs.Held.{slices};
 ghost use Rattle.interpreter.specs.Table.{Good};
-ghost use Rattle.interpreter.specs.Resume.{Placed, Resumed, Started, Resumable};
+ghost use Rattle.interpreter.specs.Resume.{Placed, Begun, Resumed, Started, Resumable};
 ghost use Rattle.interpreter.specs.Outcome.{Outcome};
 use crate::Ended;
 use crate::Ran;
@@ -57,19 +57,9 @@ pub fn resume(
     }
 }
 
-// From the start: region 0, dp right, cc left, an empty stack, 0 steps.
-fn run_valid(
-    n: usize,
-    rows: &[u32],
-    exits: &[u32],
-    terms: Terms,
-    input: &[u8],
-    stack: &mut [i64],
-    kinds: &mut [u8],
-    values: &mut [i64],
-) -> Ended
-    requires { ⌜ Good n (now rows) (now exits) ⌝ }
-    ensures { λ r. ⌜ Started n (now (rows .entry)) (now (exits .entry)) (given terms (now (input .entry))) (slices (now (stack .entry)) (now (kinds .entry)) (now (values .entry))) (slices (now (stack .exit)) (now (kinds .exit)) (now (values .exit))) r ⌝ }
+// The start: region 0, dp right, cc left, an empty stack, 0 steps. The slices are cleared for it.
+pub fn begin(stack: &mut [i64], kinds: &mut [u8], values: &mut [i64]) -> State
+    ensures { λ r. ⌜ Begun (slices (now (stack .entry)) (now (kinds .entry)) (now (values .entry))) (slices (now (stack .exit)) (now (kinds .exit)) (now (values .exit))) r ⌝ }
 {
     let cells = stack.len();
     fill_i64(stack, 0, cells, 0);
@@ -77,7 +67,7 @@ fn run_valid(
     fill_u8(kinds, 0, kind_cells, 0);
     let value_cells = values.len();
     fill_i64(values, 0, value_cells, 0);
-    let from = State {
+    State {
         region: 0,
         steps: 0,
         core: Core {
@@ -95,7 +85,24 @@ fn run_valid(
                 },
             },
         },
-    };
+    }
+}
+
+// From the start until a stop.
+fn run_valid(
+    n: usize,
+    rows: &[u32],
+    exits: &[u32],
+    terms: Terms,
+    input: &[u8],
+    stack: &mut [i64],
+    kinds: &mut [u8],
+    values: &mut [i64],
+) -> Ended
+    requires { ⌜ Good n (now rows) (now exits) ⌝ }
+    ensures { λ r. ⌜ Started n (now (rows .entry)) (now (exits .entry)) (given terms (now (input .entry))) (slices (now (stack .entry)) (now (kinds .entry)) (now (values .entry))) (slices (now (stack .exit)) (now (kinds .exit)) (now (values .exit))) r ⌝ }
+{
+    let from = begin(stack, kinds, values);
     resume(n, rows, exits, terms, input, stack, kinds, values, from)
 }
 
