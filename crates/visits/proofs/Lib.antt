@@ -1,0 +1,7 @@
+-- Laws that belong to no one function, and that the layers above cite.
+pub mod Tallying
+pub mod Starting
+pub mod ListingLaws
+pub mod Answering
+pub mod Only
+pub mod Examples
