@@ -14,6 +14,7 @@
 //     run            7 is read and written, a slide leads back, 300 is read: it lies on the stack, and 7 in the values; with
 //                    other lines, a count of its own for each reason to skip one: 3 lines are blank, 2 no numbers, 1 is out
 //                    of range, and 5 times the input has ended; edition 3 is refused
+//     visits         after one step two of the three nodes were entered; edition 3 is refused, and so is the largest limit
 //     run_picture    as classify, build and run together, with the same lent slices
 //     read_p6        a file of 1 x 2 pixels, and one whose last byte is missing; the file has the width first
 //     write_p6       the file's text tells height from width; with another height the bytes don't fit
@@ -183,6 +184,34 @@ fn run(edition: u32, limit: u64, input: &[u8], answer: &mut [u64]) {
     print_room(&stack, &kinds, &values);
 }
 
+fn visits(edition: u32, limit: u64, answer: &mut [u64]) {
+    let exits = exits();
+    let mut stack = [86i64; 5];
+    let mut kinds = [87u8; 3];
+    let mut values = [88i64; 4];
+    let mut visits = [77u64; 7];
+    let mut unvisited = [78u32; 6];
+    let number = piet_c::run_visits::piet_visits(
+        4,
+        &ROWS,
+        &exits,
+        edition,
+        limit,
+        false,
+        b"7\n",
+        &mut stack,
+        &mut kinds,
+        &mut values,
+        &mut visits,
+        &mut unvisited,
+        answer,
+    );
+    print_returned(b"piet_visits", number, answer);
+    print_room(&stack, &kinds, &values);
+    print_numbers(b"  visits", &visits);
+    print_cells(b"  unvisited", &unvisited);
+}
+
 fn run_picture(edition: u32, limit: u64, input: &[u8], answer: &mut [u64]) {
     let pixels = pixels();
     let mut colours = [80u8; 16];
@@ -262,6 +291,10 @@ fn runs() {
     run(1, 31, b"\n\n\nx\nx\n9223372036854775808\n", &mut thirteen);
     run(3, 4, b"7\n300\n5\n", &mut thirteen);
     run(1, 4, b"7\n300\n5\n", &mut eleven);
+    visits(1, 1, &mut fourteen);
+    visits(3, 1, &mut fourteen);
+    visits(1, 18446744073709551615, &mut fourteen);
+    visits(1, 1, &mut twelve);
     run_picture(1, 4, b"7\n300\n5\n", &mut fourteen);
     run_picture(1, 31, b"\n\n\nx\nx\n9223372036854775808\n", &mut fourteen);
     run_picture(3, 4, b"7\n300\n5\n", &mut fourteen);

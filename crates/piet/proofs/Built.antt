@@ -1,9 +1,11 @@
 -- Demand 3, from what building and running promise: a run of what was built from a picture is not refused, and it follows
 -- the picture.
 --     picture-follows    of a call of `run`
+--     picture-history    the exits that it takes, read as moves, are those of the picture, and so are the regions that it enters
+--     picture-visits     and what `run_visits` counts is how often the moves enter each region
 --     picture-resumed    of a call of `run` that came to MaxSteps, and a call of `resume` to a larger limit
 -- Assumes nothing.
-use mathlib.Core.Path.{_≡_, refl, sym, subst, _∙_}
+use mathlib.Core.Path.{_≡_, refl, sym, ap, _∙_}
 use mathlib.Core.Bool.{true, false, true≢false}
 use mathlib.Core.List.{List, [], _∷_}
 use Prim.Native.Nat.{ℕ, suc, _<_, _≤_}
@@ -12,15 +14,17 @@ use borrow.Author.Tests.{le-ltb, lt-leb, eq-eqb, ne-eqb}
 use lib.ListN.{length, getD, take, length-take}
 use lib.Seq.{getD-take}
 use Rattle.base.specs.declared.edition.Edition.{Edition}
+use Rattle.base.specs.Counting.{count}
 use Rattle.base.specs.Edition.{unknownEdition, editionOf}
 use Rattle.base.specs.Numbers.{numbers}
 use Rattle.base.proofs.Refusals.{passed}
 use Rattle.machine.specs.declared.Stop.the-variants.{MaxSteps}
-use Rattle.machine.specs.Machine.{Given, underLimit, Asks, givenOf}
-use Rattle.machine.specs.Place.{End}
+use Rattle.machine.specs.Machine.{underLimit, Asks, givenOf}
+use Rattle.machine.specs.Place.{start, End}
 use Rattle.machine.specs.Held.{Slices, roomOf}
 use Rattle.machine.proofs.Only.{AsLong}
-use Rattle.piet.specs.Follows.{Follows}
+use Rattle.piet.specs.Follows.{enteredBy, Follows}
+use Rattle.piet.specs.Decoded.{onto}
 use Rattle.colour.specs.Palette.{white}
 use Rattle.picture.specs.Picture.{Picture, codels, Sound}
 use Rattle.picture.proofs.Codels.{first-in}
@@ -39,14 +43,21 @@ use Rattle.interpreter.specs.declared.Ended.{Ended}
 use Rattle.interpreter.specs.declared.Ran.{Ran}
 use Rattle.interpreter.specs.declared.Ran.the-variants.{Finished}
 use Rattle.interpreter.specs.Table.{wrongMark, wrongExit, wrongExits, validOf}
-use Rattle.interpreter.specs.Outcome.{Outcome, endedOf, slicesOf, endOf}
+use Rattle.interpreter.specs.Outcome.{Outcome, endedOf, slicesOf, jobOf, endOf}
+use Rattle.interpreter.specs.History.{History, regionsOf}
 use Rattle.interpreter.specs.Resume.{Started, Resumed}
 use Rattle.interpreter.proofs.ValidLaws.{any-nowhere}
 use Rattle.interpreter.proofs.Answering.{answer-right, finishes}
 use Rattle.interpreter.proofs.Settled.{settled}
 use Rattle.interpreter.proofs.Resuming.{resume-run}
+use Rattle.visits.specs.declared.Visited.the-variants as Visited
+use Rattle.visits.specs.Visits.{unvisitedOf}
+use Rattle.visits.specs.Outcome as visiting
+use Rattle.visits.proofs.Answering.{finished}
+use Rattle.visits.proofs.Only.{not-refused}
 use Rattle.piet.proofs.Bridge.{Tabled}
-use Rattle.piet.proofs.Following.{follows}
+use Rattle.piet.proofs.Following.{onto-length, onto-entered, history-walks, stands-first, follows}
+use Rattle.piet.proofs.FollowsOnly.{walk-only}
 
 mark-small : {A : Type 0} {x : ℕ} → Marks A x → x ≤ 1
 mark-small (is a) = omega arith
@@ -97,11 +108,6 @@ module _ {e : Edition} {p : Picture} {map rows exits work map′ rows′ exits�
         any-nowhere (wrongExits (largestIn e) n exits′) n (λ r h. any-nowhere (λ s. wrongExit (largestIn e) n (exitAt exits′ r s)) 8 (λ s k. exit-right r s h k)),
       )
 
-  -- its run in the same edition follows the picture
-  pub run-follows : (getD (p .colours) 0 0 ≡ white → ⊥) → (g : Given) (l : Slices) → g .terms .edition ≡ e
-      → Follows p (take (codels p) map′) g (roomOf l) (endOf rows′ exits′ g l) × (endOf rows′ exits′ g l .at .region < n)
-  run-follows entry g l same = follows S g (subst (λ (x : Edition). Tabled x p (take (codels p) map′) rows′ exits′ n) (sym same) tabled) (roomOf l) entry
-
 -- what is built is not refused, so it does not begin white
 coloured : (number : ℕ) (p : Picture) (m r e w : ℕ) (v : List ℕ) → numbers 0 v ≡ refusal number p m r e w → getD (p .colours) 0 0 ≡ white → ⊥
 unfolding refusal refusals pictureRefusals
@@ -115,13 +121,14 @@ coloured number p m r e w v h k =
     let g = passed _ 8 _ v _ _ (f .1) in
     true≢false (sym (eq-eqb _ _ k) ∙ g .0)
 
--- what is known of a table of n regions that was built from a picture: a run of its edition does not refuse it, and follows the
--- picture
+-- what is known of a table of n regions that was built from a picture: a run of its edition does not refuse it, and what
+-- makes such a run follow the picture
 record Followed (number : ℕ) (p : Picture) (map rows exits : List ℕ) (n : ℕ) : Type 0 where
   named : unknownEdition number ≡ false
   valid : validOf (editionOf number) n rows exits ≡ true
-  follows : (g : Given) (l : Slices) → g .terms .edition ≡ editionOf number
-      → Follows p (take (codels p) map) g (roomOf l) (endOf rows exits g l) × (endOf rows exits g l .at .region < n)
+  sound : Sound p
+  begins : getD (p .colours) 0 0 ≡ white → ⊥
+  tabled : Tabled (editionOf number) p (take (codels p) map) rows exits n
 
 runs : {number : ℕ} {p : Picture} {map rows exits work map′ rows′ exits′ work′ : List ℕ} {n : ℕ}
     → building.Outcome number p map rows exits work (Done n) map′ rows′ exits′ work′ → Followed number p map′ rows′ exits′ n
@@ -133,11 +140,12 @@ runs {number} {p} {map} {rows} {exits} {work} {rows′ = rows′} {exits′ = ex
     let s = accepted number p (length map) (length rows) (length exits) (length work) (0 ∷ 0 ∷ []) (sym e) in
     let R = long (rowsRoom (codels p)) rows′ (W .builds .rows-long) in
     let X = long (exitsRoom (codels p)) exits′ (W .builds .exits-long) in
-    let begins = coloured number p (length map) (length rows) (length exits) (length work) (0 ∷ 0 ∷ []) (sym e) in
     record {
       named = known number p (length map) (length rows) (length exits) (length work) (0 ∷ 0 ∷ []) (sym e);
       valid = valid (s .sound) R X W;
-      follows = λ g l same. run-follows (s .sound) R X W begins g l same;
+      sound = s .sound;
+      begins = coloured number p (length map) (length rows) (length exits) (length work) (0 ∷ 0 ∷ []) (sym e);
+      tabled = tabled (s .sound) R X W;
     }
   where
     long : (k : ℕ) (x : List ℕ) → length (take k x) ≡ k → k ≤ length x
@@ -145,17 +153,50 @@ runs {number} {p} {map} {rows} {exits} {work} {rows′ = rows′} {exits′ = ex
 
 module _ {p : Picture} {map rows exits work map′ rows′ exits′ work′ : List ℕ} {n : ℕ} (a : Asks)
     (o : building.Outcome (a .edition) p map rows exits work (Done n) map′ rows′ exits′ work′) where
+  abbrev T : Followed (a .edition) p map′ rows′ exits′ n
+  T = runs o
+
   -- Demand 3, from the two contracts as they stand: `build` answered n, and `run` was called on what it wrote, in the same
   -- edition
   pub picture-follows : (l : Slices) {r : Ran} {l′ : Slices} → Outcome n rows′ exits′ a l r l′
       → (e : End) × (r ≡ Finished (endedOf e)) × Follows p (take (codels p) map′) (givenOf a) (roomOf l) e × (e .at .region < n)
       × (l′ ≡ slicesOf l (e .at .store))
   picture-follows l q =
-      let f = runs o .follows (givenOf a) l refl in
-      let d = finishes n rows′ exits′ a l q (answer-right n rows′ exits′ a l (runs o .named) (runs o .valid)) in
+      let f = follows (T .sound) (givenOf a) (T .tabled) (roomOf l) (T .begins) in
+      let d = finishes n rows′ exits′ a l q (answer-right n rows′ exits′ a l (T .named) (T .valid)) in
       (endOf rows′ exits′ (givenOf a) l, d .0, f .0, f .1, d .1)
 
-  -- The same of a run that was stopped and resumed: `run` to the limit x came to MaxSteps (what it promises then is
+  -- The history of that run is the walk of the picture: its exits, read as moves, are the moves, and the regions that it enters are
+  -- those that the moves enter
+  pub picture-history : (l : Slices) (h : History (jobOf rows′ exits′ (givenOf a) l) (a .limit) start (endOf rows′ exits′ (givenOf a) l))
+      (F : Follows p (take (codels p) map′) (givenOf a) (roomOf l) (endOf rows′ exits′ (givenOf a) l))
+      → (F .history ≡ onto 0 (h .exits) []) × (enteredBy (F .history) ≡ regionsOf start (h .exits))
+  picture-history l h F =
+      let g = givenOf a in
+      let s = stands-first (T .sound) g (T .tabled) (roomOf l) (T .begins) in
+      let w = history-walks (T .sound) g (T .tabled) (roomOf l) s (h .passes) .walk in
+      let same = walk-only (T .sound) (T .tabled .map-long) g (roomOf l) (F .walk) w (omega (arith, F .counted, h .counted, onto-length 0 (h .exits) [])) in
+      (same .0, ap enteredBy (same .0) ∙ onto-entered 0 (h .exits) [])
+
+  -- The same of a run whose visits were counted: they are how often the moves enter each region
+  pub picture-visits : (l : visiting.Lends) {e : Ended} {unvisited : ℕ} {l′ : visiting.Lends}
+      → visiting.Outcome n rows′ exits′ a l (Visited.Finished e unvisited) l′
+      → (x : End) × (e ≡ endedOf x) × (F : Follows p (take (codels p) map′) (givenOf a) (roomOf (l .run)) x)
+      × (l′ ≡ visiting.doneWith n rows′ exits′ a l (enteredBy (F .history)))
+      × (unvisited ≡ length (unvisitedOf n rows′ (λ r. count r (enteredBy (F .history)))))
+  picture-visits l {e} {unvisited} q =
+      let f = follows (T .sound) (givenOf a) (T .tabled) (roomOf (l .run)) (T .begins) in
+      let same = sym (picture-history (l .run) (q .history) (f .0) .1) in
+      let d = finished n rows′ exits′ a l q (not-refused n rows′ exits′ a l q) in
+      let listed : unvisited ≡ length (unvisitedOf n rows′ (λ r. count r (regionsOf start (q .history .exits)))) = let z = d .0 in cc in (
+        endOf rows′ exits′ (givenOf a) (l .run),
+        q .ends e unvisited refl,
+        f .0,
+        d .1 ∙ ap (visiting.doneWith n rows′ exits′ a l) same,
+        listed ∙ ap (λ (entered : List ℕ). length (unvisitedOf n rows′ (λ r. count r entered))) same,
+      )
+
+  -- Demand 3 of a run that was stopped and resumed: `run` to the limit x came to MaxSteps (what it promises then is
   -- `Started`, by `Resumable`), and `resume` was called to the limit y.
   pub picture-resumed : (x y : ℕ) (l l₁ l₂ : Slices) (r₁ r₂ : Ended) → x ≤ y → AsLong l₁ l → AsLong l₂ l
       → Started n rows′ exits′ (underLimit x (givenOf a)) l l₁ r₁ → r₁ .stop ≡ MaxSteps
@@ -165,6 +206,6 @@ module _ {p : Picture} {map rows exits work map′ rows′ exits′ work′ : Li
   picture-resumed x y l l₁ l₂ r₁ r₂ h long₁ long₂ p stop q =
       let g = givenOf a in
       let e = endOf rows′ exits′ (underLimit y g) l in
-      let f = runs o .follows (underLimit y g) l refl in
+      let f = follows (T .sound) (underLimit y g) (T .tabled) (roomOf l) (T .begins) in
       let d = settled n e l₂ l r₂ long₂ (resume-run n rows′ exits′ g l x y l₁ l₂ r₁ r₂ h long₁ p stop q) in
       (e, d .0, f .0, f .1, d .1)

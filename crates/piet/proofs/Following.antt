@@ -3,39 +3,32 @@
 --     follows-from     what is left of a run, from where it stands after a history, follows the picture
 --     follows          and so does the run from the start
 --     follows-few      no more number lines are skipped than moves are made
+--     onto-length, onto-entered    exits, read as moves, are as many, and enter the regions that the exits lead to
 -- Assumes nothing.
 use mathlib.Core.Path.{_≡_, refl, sym, ap, subst, _∙_}
-use mathlib.Core.Bool.{Bool, true, false, cond, true≢false}
-use mathlib.Core.List.{List, [], _∷_}
+use mathlib.Core.Bool.{true, false, true≢false}
+use mathlib.Core.List.{List, [], _∷_, _++_, map, append-nil, append-assoc, reverse-cons}
 use mathlib.Core.Logic.{_↔_, _⊎_, inl, inr}
 use Prim.Native.Nat.{ℕ, _+_, _<_, _≤_}
 use native.Mathlib.Omega.{arith}
 use native.Mathlib.Nat.{zero-div, zero-mod, zero-mul, zero-add}
-use lib.IntN.{ℤ}
 use lib.ListN.{length, getD}
 use Rattle.base.specs.declared.edition.Edition.{Edition}
 use Rattle.flow.specs.declared.PointerState.{PointerState}
-use Rattle.flow.specs.Pointer.{Valid, rotated, switched}
-use Rattle.flow.proofs.Order.{valid-rotated, valid-switched}
-use Rattle.text.specs.declared.number.Number.{Number}
+use Rattle.flow.specs.Pointer.{Valid}
 use Rattle.text.specs.declared.number.Reason.{Reason}
 use Rattle.text.specs.declared.number.Reason.the-variants.{Ended, Blank, NotNumber, OutOfRange}
-use Rattle.text.specs.declared.input.Taken.{Taken as Line}
-use Rattle.text.specs.declared.input.Taken.the-variants.{Push, Skip, BadInput as BadLine}
-use Rattle.text.specs.Input.{charOf, intOf, Next, wholeLine, charNext}
-use Rattle.text.specs.Reading.{takeOf}
 use Rattle.machine.specs.declared.Stop.{Stop}
 use Rattle.machine.specs.declared.Stop.the-variants.{Completed, MaxSteps, NeedsInput}
-use Rattle.machine.specs.Machine.{Given, RunRoom, Store, Effect, does, bad-input, keeps, stops, opNumbered, exec, withPointers, byTop, turn, write, take, takeNumber, read}
+use Rattle.machine.specs.Machine.{Given, RunRoom, Store, keeps, stops, opNumbered, exec, withPointers}
 use Rattle.machine.specs.Counts.{indexOf, countOf, total, noSkips, times}
 use Rattle.machine.specs.Skipped.{skipped}
 use Rattle.machine.specs.Place.{Machine, End, start}
-use Rattle.machine.specs.declared.Op.{Op}
-use Rattle.machine.specs.declared.Op.the-variants.{Nothing, Push as PushOp, Pop, Pair, Not, Ptr, Swi, Dup, Roll, CharIn, CharOut, IntIn, IntOut}
 use Rattle.machine.proofs.Fitting.{fit-kept, fit-stops, not-completed, not-limit, not-wait}
+use Rattle.machine.proofs.Facing.{exec-facing}
 use Rattle.machine.proofs.Skipping.{exec-counts, exec-total, times-append, skipped-same}
 use Rattle.piet.specs.Moves.{NoMove}
-use Rattle.piet.specs.Follows.{Move, doing, Walk, starts, moves, reasonsOn, Barred, Follows}
+use Rattle.piet.specs.Follows.{Move, enteredBy, doing, Walk, starts, moves, reasonsOn, Barred, Follows}
 use Rattle.piet.specs.Decoded.{moveBy, onto}
 use Rattle.colour.specs.Palette.{white}
 use Rattle.picture.specs.Picture.{Picture, colsOf, codels, codelColour, Sound}
@@ -54,52 +47,10 @@ use Rattle.base.proofs.Clash.{clash}
 use Rattle.piet.proofs.Bridge.{Tabled, Taken, none, some, taken}
 use Rattle.piet.proofs.MoveLaws.{not-both}
 
--- ---- an instruction keeps the pointers a state
-
-abbrev Holds : Effect → Type 0
-Holds (does m) = Valid (m .pointers)
-Holds bad-input = Unit {0}
-
-by-top : (f : PointerState → ℤ → PointerState) → ((q : PointerState) (z : ℤ) → Valid q → Valid (f q z)) → (s : List ℤ) (q : PointerState) → Valid q → Valid (byTop f s q)
-unfolding byTop
-by-top f g [] q v = v
-by-top f g (z ∷ s) q v = g q z v
-
-taking : (t : Line) (m : Store) → Valid (m .pointers) → Holds (take t m)
-unfolding take
-taking (Push v n) m h = h
-taking (Skip n why) m h = h
-taking BadLine m h = tt
-
-either : (t : Bool) (d e : Effect) → Holds d → Holds e → Holds (cond t d e)
-either true d e h k = h
-either false d e h k = k
-
-reading : (g : Given) (f : List ℕ → Number) (next : Next) (takes : Line → Store → Effect) (m : Store) → ((t : Line) → Holds (takes t m))
-    → Valid (m .pointers) → Holds (read g f next takes m)
-unfolding read
-reading g f next takes m k h = either (g .terms .«abstract_mode») _ _ h (k (takeOf f next (g .input) (m .reading .used)))
-
-executing : (g : Given) (size : ℕ) (op : Op) (m : Store) → Valid (m .pointers) → Holds (exec g size op m)
-unfolding exec turn write
-executing g size Nothing m h = h
-executing g size PushOp m h = h
-executing g size Pop m h = h
-executing g size (Pair o) m h = h
-executing g size Not m h = h
-executing g size Ptr m h = by-top rotated valid-rotated (m .stack) (m .pointers) h
-executing g size Swi m h = by-top switched valid-switched (m .stack) (m .pointers) h
-executing g size Dup m h = h
-executing g size Roll m h = h
-executing g size CharIn m h = reading g charOf (charNext (g .terms .edition)) take m (λ t. taking t m h) h
-executing g size CharOut m h = h
-executing g size IntIn m h = reading g intOf wholeLine takeNumber m (λ t. taking t _ h) h
-executing g size IntOut m h = h
-
 -- a move that is kept keeps the pointers a state
 pub keeps-valid : (p : Picture) (map : List ℕ) (g : Given) (room : RunRoom) (r : ℕ) (u : PointerState) (i : ℕ) (m : Store) {m′ : Store}
     → doing p map g room r u i m ≡ keeps m′ → Valid u → Valid (m′ .pointers)
-keeps-valid p map g room r u i m h v = subst Holds (fit-kept room _ h) (executing g (tally r (codels p) map) (opNumbered i) (withPointers u m) v)
+keeps-valid p map g room r u i m h v = exec-facing g (tally r (codels p) map) (opNumbered i) (withPointers u m) v (fit-kept room _ h)
 
 -- ---- what a walk counts
 
@@ -137,10 +88,19 @@ module _ (p : Picture) (map : List ℕ) (g : Given) (room : RunRoom) where
 -- ---- a run over the table walks the picture
 
 -- as many moves as exits
-onto-length : (r : ℕ) (exits : List ℕ) (history : List Move) → length (onto r exits history) ≡ length exits + length history
+pub onto-length : (r : ℕ) (exits : List ℕ) (history : List Move) → length (onto r exits history) ≡ length exits + length history
 unfolding onto
 onto-length r [] history = omega arith
 onto-length r (x ∷ exits) history = omega (arith, onto-length (targetOf x) exits (moveBy r x ∷ history))
+
+-- they enter the exits' targets
+pub onto-entered : (r : ℕ) (exits : List ℕ) (history : List Move) → enteredBy (onto r exits history) ≡ enteredBy history ++ map targetOf exits
+unfolding onto
+onto-entered r [] history = sym (append-nil (enteredBy history))
+onto-entered r (x ∷ exits) history =
+    onto-entered (targetOf x) exits (moveBy r x ∷ history)
+    ∙ ap (λ (l : List ℕ). 0 ∷ l ++ map targetOf exits) (reverse-cons (targetOf x) (map (λ (v : Move). v .to) history))
+    ∙ append-assoc (enteredBy history) (targetOf x ∷ []) (map targetOf exits)
 
 module _ {p : Picture} {map rows exits : List ℕ} {n : ℕ} (S : Sound p) (g : Given) (B : Tabled (g .terms .edition) p map rows exits n) (room : RunRoom) where
   abbrev edition : Edition

@@ -1,7 +1,8 @@
--- Demand 3 settles a run: what a picture, what is given and a limit allow is one end. Assumes nothing.
+-- Demand 3 settles a run: walks of one length make the same moves, and what a picture, what is given and a limit allow is one end.
+-- Assumes nothing.
 use mathlib.Core.Path.{_≡_, refl, sym, ap, subst, _∙_}
 use mathlib.Core.Bool.{false, true≢false}
-use mathlib.Core.List.{List}
+use mathlib.Core.List.{List, _∷_}
 use mathlib.Core.Logic.{by-cases}
 use Prim.Native.Nat.{ℕ, _<_}
 use native.Mathlib.Omega.{arith}
@@ -95,7 +96,7 @@ module _ {e : Edition} {p : Picture} {map : List ℕ} (S : Sound p) (L : length 
 
 module _ {p : Picture} {map : List ℕ} (S : Sound p) (L : length map ≡ codels p) where
   module _ (g : Given) (room : RunRoom) where
-    -- ---- walks of one length end alike
+    -- ---- walks of one length make the same moves and end alike
 
     walk-valid : {h : List Move} {r : ℕ} {m : Store} → Walk p map g room h r m → Valid (m .pointers)
     walk-valid starts = record { dp = omega arith; cc = omega arith }
@@ -105,11 +106,11 @@ module _ {p : Picture} {map : List ℕ} (S : Sound p) (L : length map ≡ codels
     -- from one place the next move is one, and comes to one thing
     move-only : {r t i r′ t′ i′ : ℕ} {m m′ : Store} {u u′ : PointerState} → Valid (m .pointers) → r ≡ r′ → m ≡ m′
         → FirstOpen (g .terms .edition) p map r (m .pointers) t u i → FirstOpen (g .terms .edition) p map r′ (m′ .pointers) t′ u′ i′
-        → (t ≡ t′) × (doing p map g room r u i m ≡ doing p map g room r′ u′ i′ m′)
+        → (t ≡ t′) × (u ≡ u′) × (i ≡ i′) × (doing p map g room r u i m ≡ doing p map g room r′ u′ i′ m′)
     move-only {r} {t} {i} {r′} {t′} {i′} {m} {m′} {u} {u′} v er em F F′ =
         let o = first-only S L v F (subst (λ (x : ℕ). FirstOpen (g .terms .edition) p map x (m .pointers) t′ u′ i′) (sym er)
         (subst (λ (y : Store). FirstOpen (g .terms .edition) p map r′ (y .pointers) t′ u′ i′) (sym em) F′)) in
-        (o .0, λ j. doing p map g room (er j) (o .1 j) (o .2 j) (em j))
+        (o .0, o .1, o .2, λ j. doing p map g room (er j) (o .1 j) (o .2 j) (em j))
 
     -- no move is left, and one is
     none-first : {r r′ t i : ℕ} {m m′ : Store} {u : PointerState} → Valid (m′ .pointers) → r ≡ r′ → m ≡ m′ → NoMove (g .terms .edition) p map r (m .pointers)
@@ -118,16 +119,16 @@ module _ {p : Picture} {map : List ℕ} (S : Sound p) (L : length map ≡ codels
         not-both S L v
         (subst (λ (y : Store). NoMove (g .terms .edition) p map r′ (y .pointers)) em (subst (λ (x : ℕ). NoMove (g .terms .edition) p map x (m .pointers)) er N)) F
 
-    walk-only : {h h′ : List Move} {r r′ : ℕ} {m m′ : Store} → Walk p map g room h r m → Walk p map g room h′ r′ m′ → length h ≡ length h′
-        → (r ≡ r′) × (m ≡ m′)
-    walk-only starts starts e = (refl, refl)
+    pub walk-only : {h h′ : List Move} {r r′ : ℕ} {m m′ : Store} → Walk p map g room h r m → Walk p map g room h′ r′ m′ → length h ≡ length h′
+        → (h ≡ h′) × (r ≡ r′) × (m ≡ m′)
+    walk-only starts starts e = (refl, refl, refl)
     walk-only starts (moves w f F k) e = absurd (omega arith)
     walk-only (moves w f F k) starts e = absurd (omega arith)
     walk-only (moves {m′ = n} w f F k) (moves {m′ = n′} w′ f′ F′ k′) e =
         let a = walk-only w w′ (omega arith) in
-        let o = move-only (walk-valid w) (a .0) (a .1) F F′ in
-        let z : keeps n ≡ keeps n′ = sym k ∙ o .1 ∙ k′ in
-        (o .0, cc)
+        let o = move-only (walk-valid w) (a .1) (a .2) F F′ in
+        let z : keeps n ≡ keeps n′ = sym k ∙ o .3 ∙ k′ in
+        (λ j. record { from = a .1 j; to = o .0 j; pointers = o .1 j; instruction = o .2 j } ∷ a .0 j, o .0, cc)
 
     -- ---- and so neither of two ends comes before the other
 
@@ -135,7 +136,7 @@ module _ {p : Picture} {map : List ℕ} (S : Sound p) (L : length map ≡ codels
     not-earlier {e} {e′} A B h =
         let G = passes p map g room (e .at .steps) (B .walk) (omega (arith, B .counted)) in
         let o = walk-only (A .walk) (G .walk) (omega (arith, A .counted, G .counted)) in
-        goes G (o .0) (o .1) (reason (e .stop))
+        goes G (o .1) (o .2) (reason (e .stop))
       where
         goes : (G : Goes p map g room (e .at .steps)) → e .at .region ≡ G .region → e .at .store ≡ G .store → Reason (e .stop) → ⊥
         goes G er em (by-limit s) = omega (arith, A .limited .0 s, B .within)
@@ -144,7 +145,7 @@ module _ {p : Picture} {map : List ℕ} (S : Sound p) (L : length map ≡ codels
         goes G er em (by-bar x y z) =
             let R = A .barred x y z in
             let o = move-only (walk-valid (A .walk)) er em (R .next) (G .next) in
-            let k : stops (e .stop) ≡ keeps (G .then) = sym (R .unkept) ∙ o .1 ∙ G .kept in
+            let k : stops (e .stop) ≡ keeps (G .then) = sym (R .unkept) ∙ o .3 ∙ G .kept in
             clash (cc)
 
     -- ---- nor stops for another reason
@@ -164,7 +165,7 @@ module _ {p : Picture} {map : List ℕ} (S : Sound p) (L : length map ≡ codels
             let R = A .barred x y z in
             let R′ = B .barred x′ y′ z′ in
             let o = move-only (walk-valid (A .walk)) refl refl (R .next) (R′ .next) in
-            let k : stops s ≡ stops s′ = sym (R .unkept) ∙ o .1 ∙ R′ .unkept in
+            let k : stops s ≡ stops s′ = sym (R .unkept) ∙ o .3 ∙ R′ .unkept in
             cc
 
     -- one numbering of the regions allows one end
@@ -172,7 +173,7 @@ module _ {p : Picture} {map : List ℕ} (S : Sound p) (L : length map ≡ codels
     follows-only {e} {e′} A B =
         let n : e .at .steps ≡ e′ .at .steps = omega (arith, not-earlier A B, not-earlier B A) in
         let o = walk-only (A .walk) (B .walk) (omega (arith, A .counted, B .counted)) in
-        let m : e .at ≡ e′ .at = λ j. record { region = o .0 j; steps = n j; store = o .1 j } in
+        let m : e .at ≡ e′ .at = λ j. record { region = o .1 j; steps = n j; store = o .2 j } in
         let s = stop-only A (subst (λ (x : Machine). Follows p map g room (record { stop = e′ .stop; at = x })) (sym m) B) in
         λ j. record { stop = s j; at = m j }
 

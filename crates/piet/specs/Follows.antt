@@ -2,7 +2,7 @@
 -- rows, exits or an exit number (rules 8.1 to 8.4). Assumes nothing.
 use mathlib.Core.Path.{_≡_}
 use mathlib.Core.Bool.{true, false}
-use mathlib.Core.List.{List, [], _∷_, _++_}
+use mathlib.Core.List.{List, [], _∷_, _++_, map, reverse}
 use mathlib.Core.Logic.{_↔_}
 use Prim.Native.Nat.{ℕ, _<_, _≤_}
 use lib.ListN.{length}
@@ -25,6 +25,11 @@ pub record Move : Type 0 where
   pub to : ℕ
   pub pointers : PointerState
   pub instruction : ℕ
+
+-- the regions that moves enter, in their order: region 0, where a run starts, and then what each move reaches. The latest move
+-- stands first in a history
+abbrev pub enteredBy : List Move → List ℕ
+enteredBy history = 0 ∷ reverse (map (λ v. v .to) history)
 
 module _ (p : Picture) (map : List ℕ) (g : Given) (room : RunRoom) where
   -- the edition of the run: it says how the attempts are judged and what the instructions do

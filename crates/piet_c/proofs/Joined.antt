@@ -1,11 +1,12 @@
 -- Two calls from C, one after the other, from what the two promise; nothing of how either is met is used. Demand 3: a run of
--- what was built from a picture is not refused, and it follows the picture. Rule 15.6: a P6 file that was written is read back
--- the same. Assumes nothing.
-use mathlib.Core.Path.{_≡_, sym, ap, _∙_}
-use mathlib.Core.List.{List, [], _∷_}
+-- what was built from a picture is not refused, and it follows the picture; rule 17.2: what is counted of it are the moves. Rule 15.6: a P6 file that was
+-- written is read back the same. Assumes nothing.
+use mathlib.Core.Path.{_≡_, sym, ap, ap₂, subst, _∙_}
+use mathlib.Core.List.{List, [], _∷_, _++_}
 use Prim.Native.Nat.{ℕ, _<_, _≤_}
 use native.Mathlib.Omega.{arith}
 use lib.ListN.{length, getD, take}
+use Rattle.base.specs.Counting.{count}
 use Rattle.base.specs.Lent.{lent}
 use Rattle.base.specs.Numbers.{Numbers, numberOf, valuesOf}
 use Rattle.picture.specs.Picture.{Picture, codels}
@@ -15,17 +16,22 @@ use Rattle.cfg.specs.Build as building
 use Rattle.machine.specs.Machine.{Asks, givenOf}
 use Rattle.machine.specs.Place.{End}
 use Rattle.machine.specs.Held.{Slices, roomOf}
+use Rattle.interpreter.specs.declared.Ended.{Ended}
 use Rattle.interpreter.specs.Outcome as running
 use Rattle.interpreter.specs.Outcome.{endedOf, resultCells, resultOf, slicesOf}
-use Rattle.piet.specs.Follows.{Follows}
-use Rattle.piet.proofs.Built.{picture-follows}
+use Rattle.visits.specs.declared.Visited.{Visited}
+use Rattle.visits.specs.Visits.{unvisitedOf}
+use Rattle.visits.specs.Outcome as visiting
+use Rattle.visits.proofs.Only.{visits-finished}
+use Rattle.piet.specs.Follows.{enteredBy, Follows}
+use Rattle.piet.proofs.Built.{picture-follows, picture-visits}
 use Rattle.netpbm.specs.declared.writing.Written.{Written}
 use Rattle.netpbm.specs.declared.writing.Written.the-variants.{Done as Wrote, Size as WrongSize, Bytes as WrongBytes, Room as NoRoom}
 use Rattle.netpbm.specs.Reads as reading
 use Rattle.netpbm.specs.Writes as writing
 use Rattle.netpbm.proofs.RoundTrip.{round-trip}
 use Rattle.piet_c.specs.Exported.{Exported, short, made}
-use Rattle.piet_c.specs.Calls.{BuildCall, TableRoom, RunCall, ReadP6Call, WriteP6Call}
+use Rattle.piet_c.specs.Calls.{BuildCall, TableRoom, RunCall, VisitsCall, ReadP6Call, WriteP6Call}
 
 -- where 0 was returned the call was made, and its answer's number is 0
 done-made : {need : ℕ} {S A : Type 0} {numbered : A → Numbers} {Leaves : A → S → Type 0} {before after : S} {a a′ : List ℕ}
@@ -67,6 +73,27 @@ c-picture-follows q o l {b} h (made k i (x, e, c) z w) =
     let t = picture-follows q (table o) l c in
     let f = sym e ∙ ap running.numbered (t .1) in
     (t .0, z ∙ ap numberOf f, w ∙ ap (λ (x : Numbers). lent (valuesOf x) b) f, t .2, t .3, t .4)
+
+-- the same of `piet_visits`, where it returned 0: what it counted is how often the moves enter each region
+pub c-picture-visits : (q : Asks) {p : Picture} {s s′ : TableRoom} {a a′ : List ℕ} → Exported 2 (BuildCall (q .edition) p s) s a 0 s′ a′
+    → (l : visiting.Lends) {b b′ : List ℕ} {l′ : visiting.Lends}
+    → Exported visiting.visitCells (VisitsCall (getD a′ 0 0) (s′ .rows) (s′ .exits) q l) l b 0 l′ b′
+    → (e : End) × (F : Follows p (take (codels p) (s′ .map)) (givenOf q) (roomOf (l .run)) e)
+    × (l′ ≡ visiting.doneWith (getD a′ 0 0) (s′ .rows) (s′ .exits) q l (enteredBy (F .history)))
+    × (b′ ≡ lent (resultOf (endedOf e) ++ (length (unvisitedOf (getD a′ 0 0) (s′ .rows) (λ r. count r (enteredBy (F .history)))) ∷ [])) b)
+unfolding visiting.numbered
+c-picture-visits q {s′ = s′} {a′ = a′} o l {b} {l′ = l′} v =
+    let n = getD a′ 0 0 in
+    let m = done-made v in
+    let f = visits-finished n (s′ .rows) (s′ .exits) q l (m .3) (m .1) in
+    let t = picture-visits q (table o) l (subst (λ (r : Visited). visiting.Outcome n (s′ .rows) (s′ .exits) q l r l′) (f .2) (m .3)) in (
+      t .0,
+      t .2,
+      t .3,
+      m .2
+          ∙ ap (λ (r : Visited). lent (valuesOf (visiting.numbered r)) b) (f .2)
+          ∙ ap₂ (λ (e : Ended) (u : ℕ). lent (resultOf e ++ (u ∷ [])) b) (t .1) (t .4),
+    )
 
 -- where 0 was returned the answer's first cell is the length of the file
 measured : (r : Written) (a : List ℕ) {a′ : List ℕ} → 0 ≡ numberOf (writing.numbered r) → a′ ≡ lent (valuesOf (writing.numbered r)) a

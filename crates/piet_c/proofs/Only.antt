@@ -9,8 +9,10 @@ use Rattle.machine.specs.Machine.{Asks}
 use Rattle.machine.specs.Held.{Slices}
 use Rattle.interpreter.specs.Outcome as running
 use Rattle.interpreter.proofs.Only.{run-only}
+use Rattle.visits.specs.Outcome as visiting
+use Rattle.visits.proofs.Only.{visits-only}
 use Rattle.piet_c.specs.Exported.{Exported, short, made}
-use Rattle.piet_c.specs.Calls.{ClassifyCall, LabelCall, BuildCall, TableRoom, RunCall, ForeverCall, pictureCells, padded, PictureCall, ReadP6Call, WriteP6Call}
+use Rattle.piet_c.specs.Calls.{ClassifyCall, LabelCall, BuildCall, TableRoom, RunCall, VisitsCall, ForeverCall, pictureCells, padded, PictureCall, ReadP6Call, WriteP6Call}
 use Rattle.picture.specs.Picture.{Picture}
 use Rattle.colour.proofs.Only.{classify-only, label-only}
 use Rattle.colour.specs.Classify as classifying
@@ -64,6 +66,11 @@ pub runs : (k : ℕ) (rows exits : List ℕ) (a : Asks) (l : Slices) → Settles
 runs k rows exits a l n n′ s s′ (r, e, o) (r′, e′, o′) =
     let d = run-only k rows exits a l o o′ in
     (sym e ∙ ap running.numbered (d .0) ∙ e′, d .1)
+
+pub visits : (k : ℕ) (rows exits : List ℕ) (a : Asks) (l : visiting.Lends) → Settles (VisitsCall k rows exits a l)
+visits k rows exits a l n n′ s s′ (r, e, o) (r′, e′, o′) =
+    let d = visits-only k rows exits a l o o′ in
+    (sym e ∙ ap visiting.numbered (d .0) ∙ e′, d .1)
 
 pub tells : (k : ℕ) (rows exits : List ℕ) → Settles (ForeverCall k rows exits)
 tells k rows exits n n′ s s′ (r, e, o) (r′, e′, o′) = (sym e ∙ o ∙ sym o′ ∙ e′, refl)

@@ -36,11 +36,7 @@ next-put [] (y ∷ l) x h = refl
 next-put (w ∷ v) [] x h = absurd (omega arith)
 next-put (w ∷ v) (y ∷ l) x h = ap (λ (t : List ℕ). w ∷ t) (next-put v l x (le-of-suc-le-suc h))
 
--- zeros, and the same with a place over them
-pub zeros-put : (l : List ℕ) (n : ℕ) → filled 0 n 0 l ≡ lent (replicate n 0) l
-unfolding lent
-zeros-put l n = filled-zero l n 0 ∙ ap (λ (k : ℕ). replicate n 0 ++ drop k l) (sym (length-replicate n 0))
-
+-- a place over zeros
 pub place-put : (l : List ℕ) {l₁ l₂ : List ℕ} (row column n : ℕ) → l₁ ≡ filled 0 (suc (suc n)) 0 l → l₂ ≡ lent (row ∷ column ∷ []) l₁
     → l₂ ≡ lent (row ∷ column ∷ replicate n 0) l
 unfolding lent

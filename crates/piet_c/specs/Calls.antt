@@ -1,4 +1,4 @@
--- What each call makes: the layers' own outcomes, by their numbers (rules 8.5, 12.2, 15.4, 15.5). Assumes nothing.
+-- What each call makes: the layers' own outcomes, by their numbers (rules 8.5, 12.2, 15.4, 15.5, 17.4). Assumes nothing.
 use mathlib.Core.Path.{_≡_}
 use mathlib.Core.List.{List, _++_}
 use Prim.Native.Nat.{ℕ, _+_, _-_}
@@ -17,6 +17,8 @@ use Rattle.interpreter.specs.declared.Ran.{Ran}
 use Rattle.interpreter.specs.declared.Forever.{Forever}
 use Rattle.interpreter.specs.Outcome as running
 use Rattle.interpreter.specs.Forever as always
+use Rattle.visits.specs.declared.Visited.{Visited}
+use Rattle.visits.specs.Outcome as visiting
 use Rattle.piet.specs.declared.run_picture.Pictured.{Pictured}
 use Rattle.piet.specs.RunPicture as picturing
 use Rattle.piet.specs.RunPicture.{Asked, Lends}
@@ -49,6 +51,10 @@ BuildCall edition p s n s′ =
 
 abbrev pub RunCall : ℕ → List ℕ → List ℕ → Asks → Slices → Numbers → Slices → Type 0
 RunCall n rows exits a l k l′ = (r : Ran) × (running.numbered r ≡ k) × running.Outcome n rows exits a l r l′
+
+-- one value more than a run's: the count of nodes never entered
+abbrev pub VisitsCall : ℕ → List ℕ → List ℕ → Asks → visiting.Lends → Numbers → visiting.Lends → Type 0
+VisitsCall n rows exits a l k l′ = (r : Visited) × (visiting.numbered r ≡ k) × visiting.Outcome n rows exits a l r l′
 
 -- nothing is lent besides the answer
 abbrev pub ForeverCall : ℕ → List ℕ → List ℕ → Numbers → Unit {0} → Type 0

@@ -2,6 +2,7 @@
 // that go with it are written into `answer` (rules 12.1, 12.8).
 pub mod p6;
 pub mod run_picture;
+pub mod run_visits;
 
 ghost use mathlib.Core.Path.{_≡_};
 ghost use mathlib.Core.List.{_∷_, []};

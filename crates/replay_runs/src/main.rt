@@ -2,7 +2,8 @@
 // tables of edition 2 with long slides: `stdin` holds questions, each the edition of the building and that of the run, a byte
 // each, a picture, then the limit in four bytes, the mode, the stack's room and the output's room, a byte each, the input's
 // length in two, the lower first, and the input; `stdout` has a line for each: the run's twelve numbers, the stack from its
-// top, and a kind and a value for each output.
+// top, and a kind and a value for each output. Where the run is not refused a line follows: how many nodes it never entered,
+// how often it entered each region, and those nodes.
 ghost use Prim.Native.Nat.{_≤_};
 ghost use lib.ListN.{length};
 use cfg::Built;
@@ -89,6 +90,88 @@ fn print_run(
     print_outputs(kinds, values, answer[6]);
 }
 
+// The counts of n regions.
+fn print_counts(visits: &[u64], n: usize) {
+    io::write_all(STDOUT_FILENO, b" :");
+    let mut i = 0;
+    while i < visits.len() {
+        if i < n {
+            stored::print_number(visits[i]);
+        }
+        i += 1;
+    }
+}
+
+// The nodes at the beginning of a list.
+fn print_nodes(nodes: &[u32], count: u64) {
+    io::write_all(STDOUT_FILENO, b" :");
+    let mut i = 0;
+    while i < nodes.len() {
+        if (i as u64) < count {
+            stored::print_cell(nodes[i]);
+        }
+        i += 1;
+    }
+}
+
+// How often the same run enters each region. A refusal is told by the run's line.
+fn print_visits(
+    n: usize,
+    rows: &[u32],
+    exits: &[u32],
+    edition: u32,
+    question: &[u8],
+    stack: &mut [i64],
+    kinds: &mut [u8],
+    values: &mut [i64],
+)
+    requires { ⌜ 9 ≤ length (now question) ⌝ }
+{
+    let mut visits = [0u64; 1024];
+    let mut unvisited = [0u32; 1024];
+    let mut answer = [0u64; 13];
+    let limit = limit_of(question[0], question[1], question[2], question[3]);
+    let number = piet_c::run_visits::piet_visits(
+        n,
+        rows,
+        exits,
+        edition,
+        limit,
+        question[4] == 1,
+        &question[9..],
+        stack,
+        kinds,
+        values,
+        &mut visits,
+        &mut unvisited,
+        &mut answer,
+    );
+    if number != 0 {
+        return;
+    }
+    io::write_all(STDOUT_FILENO, b"\nvisits");
+    stored::print_number(answer[12]);
+    print_counts(&visits, n);
+    print_nodes(&unvisited, answer[12]);
+}
+
+// Both lines, in the same room.
+fn print_answers(
+    n: usize,
+    rows: &[u32],
+    exits: &[u32],
+    edition: u32,
+    question: &[u8],
+    stack: &mut [i64],
+    kinds: &mut [u8],
+    values: &mut [i64],
+)
+    requires { ⌜ 9 ≤ length (now question) ⌝ }
+{
+    print_run(n, rows, exits, edition, question, stack, kinds, values);
+    print_visits(n, rows, exits, edition, question, stack, kinds, values);
+}
+
 fn lend_and_run(n: usize, rows: &[u32], exits: &[u32], edition: u32, question: &[u8])
     requires { ⌜ 9 ≤ length (now question) ⌝ }
 {
@@ -97,7 +180,7 @@ fn lend_and_run(n: usize, rows: &[u32], exits: &[u32], edition: u32, question: &
     let mut values = [0i64; 256];
     let depth = stored::wide(question[5]);
     let room = stored::wide(question[6]);
-    print_run(
+    print_answers(
         n,
         rows,
         exits,

@@ -1,7 +1,7 @@
 -- `piet_c::put_ran` meets its contract. Assumes nothing.
 use mathlib.Core.Path.{refl, _∙_}
+use Rattle.base.proofs.Over.{filled-lent}
 use Rattle.interpreter.specs.Outcome.{resultCells, numbered}
-use Rattle.piet_c.proofs.Telling.{zeros-put}
 use borrow.Author.Needs.{needs}
 use Rattle.piet_c.proofs.put_ran.Statement.{statement}
 use Rattle.piet_c.proofs.put_ran.Tie as tie
@@ -27,7 +27,7 @@ returns c =
     let f = c .before .before in
     let r = f .before .before .before .r .given in
     let s = f .before .before .before .before .before .before in
-    rw (r .1) (refl, f .fill-u64 .ensures ∙ zeros-put (s .args .answer .now) resultCells)
+    rw (r .1) (refl, f .fill-u64 .ensures ∙ filled-lent (s .args .answer .now) resultCells 0)
 
 same-length-2 : tie.Need-same-length-2
 same-length-2 c = search needs

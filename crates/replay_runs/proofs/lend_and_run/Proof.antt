@@ -20,23 +20,23 @@ wide-requires-2 c κs = search needs
 array-borrow-prefix-stack : tie.Need-array-borrow-prefix-stack
 array-borrow-prefix-stack c = search needs
 
-slice-aggregate-print-run : tie.Need-slice-aggregate-print-run
-slice-aggregate-print-run c = sym (length-take-le _ _ (omega (arith, c .before .before .before .wide .ensures .1)))
+slice-aggregate-print-answers : tie.Need-slice-aggregate-print-answers
+slice-aggregate-print-answers c = sym (length-take-le _ _ (omega (arith, c .before .before .before .wide .ensures .1)))
 
 array-borrow-prefix-kinds : tie.Need-array-borrow-prefix-kinds
 array-borrow-prefix-kinds c = search needs
 
-slice-aggregate-print-run-2 : tie.Need-slice-aggregate-print-run-2
-slice-aggregate-print-run-2 c = sym (length-take-le _ _ (omega (arith, c .before .before .wide2 .ensures .1)))
+slice-aggregate-print-answers-2 : tie.Need-slice-aggregate-print-answers-2
+slice-aggregate-print-answers-2 c = sym (length-take-le _ _ (omega (arith, c .before .before .wide2 .ensures .1)))
 
 array-borrow-prefix-values : tie.Need-array-borrow-prefix-values
 array-borrow-prefix-values c = search needs
 
-slice-aggregate-print-run-3 : tie.Need-slice-aggregate-print-run-3
-slice-aggregate-print-run-3 c = sym (length-take-le _ _ (omega (arith, c .before .before .before .wide2 .ensures .1)))
+slice-aggregate-print-answers-3 : tie.Need-slice-aggregate-print-answers-3
+slice-aggregate-print-answers-3 c = sym (length-take-le _ _ (omega (arith, c .before .before .before .wide2 .ensures .1)))
 
-print-run-requires : tie.Need-print-run-requires
-print-run-requires c κs = search needs
+print-answers-requires : tie.Need-print-answers-requires
+print-answers-requires c κs = search needs
 
 returns : tie.Need-returns
 returns c = search needs
@@ -50,10 +50,10 @@ lend-and-run-spec =
     shared-slice-read-wide-2
     wide-requires-2
     array-borrow-prefix-stack
-    slice-aggregate-print-run
+    slice-aggregate-print-answers
     array-borrow-prefix-kinds
-    slice-aggregate-print-run-2
+    slice-aggregate-print-answers-2
     array-borrow-prefix-values
-    slice-aggregate-print-run-3
-    print-run-requires
+    slice-aggregate-print-answers-3
+    print-answers-requires
     returns)
