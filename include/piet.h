@@ -4,6 +4,7 @@
  *   piet_classify   pixels            -> colour numbers
  *   piet_build      colour numbers    -> the picture's table: regions and their exits
  *   piet_run        table, input      -> status, stack and outputs
+ *   piet_visits     table, input      -> the same, how often each region was entered, and which nodes never were
  *   piet_label      a region's colour and first pixel -> its name, as RegRed_0_1
  *   piet_determine_runs_forever       table -> whether every node has an exit
  *   piet_run_picture                  pixels, input -> the whole run: the first three in one call
@@ -44,7 +45,8 @@ enum piet_refusal {
     PIET_REFUSED_SIZE = 1,     /* height or width 0 or above 1,024 */
     PIET_REFUSED_BYTES = 2,    /* pixels not 3 x height x width bytes, or colours not height x width */
     PIET_REFUSED_SETTING = 3,  /* a setting for unknown pixels above 3 */
-    PIET_REFUSED_ROOM = 4,     /* too short: colours, map, rows, exits, work, a P6 call's pixels or file, or answer */
+    PIET_REFUSED_ROOM = 4,     /* too short: colours, map, rows, exits, work, visits, unvisited, a P6 call's pixels or
+                                  file, or answer */
     PIET_REFUSED_PIXEL = 5,    /* setting 1: a pixel that is none of the twenty colours; its row and column */
     PIET_REFUSED_CODEL = 6,    /* codel width 0 or above 1,024 */
     PIET_REFUSED_GRID = 7,     /* more than 65,536 codels */
@@ -54,7 +56,8 @@ enum piet_refusal {
     PIET_REFUSED_LABEL = 12,   /* colour above 19, row or column above 1,023, or under 22 bytes lent */
     PIET_REFUSED_HEADER = 13,  /* no P6 header, or another maximum than 255 */
     PIET_REFUSED_LENGTH = 14,  /* too few or too many bytes after a P6 header */
-    PIET_REFUSED_EDITION = 15  /* an edition other than 1 and 2 */
+    PIET_REFUSED_EDITION = 15, /* an edition other than 1 and 2 */
+    PIET_REFUSED_LIMIT = 16    /* visits are to be counted up to a limit of 2^64 - 1 */
 };
 
 /*
@@ -179,7 +182,8 @@ enum piet_run_cell {
     PIET_RUN_SKIPPED_BLANK = 9,         /* a line was there, and it was white space alone */
     PIET_RUN_SKIPPED_NOT_NUMBER = 10,   /* what was left is not a number */
     PIET_RUN_SKIPPED_OUT_OF_RANGE = 11, /* what was left is a number below -2^63 or above 2^63 - 1 */
-    PIET_RUN_PICTURE_REGIONS = 12       /* of piet_run_picture alone: the count of regions */
+    PIET_RUN_PICTURE_REGIONS = 12,      /* of piet_run_picture alone: the count of regions */
+    PIET_RUN_UNVISITED = 12             /* of piet_visits alone: the count of nodes never entered */
 };
 
 /* The kind of an output. */
@@ -195,6 +199,7 @@ enum piet_size {
     PIET_LABEL_ANSWER = 1,
     PIET_FOREVER_ANSWER = 1,
     PIET_RUN_ANSWER = 12,
+    PIET_VISITS_ANSWER = 13,
     PIET_RUN_PICTURE_ANSWER = 13,
     PIET_READ_P6_ANSWER = 2,
     PIET_WRITE_P6_ANSWER = 1,
@@ -316,6 +321,33 @@ uint32_t piet_run(size_t n,
                   uint8_t *kinds, size_t kinds_length,
                   int64_t *values, size_t values_length,
                   uint64_t *answer, size_t answer_length);
+
+/*
+ * A run over a table, as by piet_run, with each region's visits counted: the start counts once for region 0, and each
+ * step once for the region that it reaches. A step that is not taken counts nothing, and neither does a lost slide. The
+ * counts of the n regions together are the steps and one more.
+ *
+ *   n to values   as for piet_run, and written alike; but limit is at most 2^64 - 2, so that each count fits
+ *   visits        room for n: how often each region was entered, whatever the cells held before
+ *   unvisited     room for n: the nodes, rows with mark 1, that were never entered, by their region numbers in rising
+ *                 order; then zeros up to n cells. Region 0 is never among them, since the start enters it
+ *   answer        13 cells: the twelve of piet_run, then the count of nodes never entered
+ *
+ * Cells of visits and unvisited past n stay as they were. A region whose row has no mark is counted and never listed.
+ *
+ * Returns the first refusal that holds in the order EDITION, TABLE, LIMIT, ROOM, or PIET_DONE.
+ */
+uint32_t piet_visits(size_t n,
+                     const uint32_t *rows, size_t rows_length,
+                     const uint32_t *exits, size_t exits_length,
+                     uint32_t edition, uint64_t limit, bool abstract_mode,
+                     const uint8_t *input, size_t input_length,
+                     int64_t *stack, size_t stack_length,
+                     uint8_t *kinds, size_t kinds_length,
+                     int64_t *values, size_t values_length,
+                     uint64_t *visits, size_t visits_length,
+                     uint32_t *unvisited, size_t unvisited_length,
+                     uint64_t *answer, size_t answer_length);
 
 /*
  * The whole run of a picture: its colours as by piet_classify, its table as by piet_build, and the run over that table

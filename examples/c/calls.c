@@ -69,6 +69,10 @@ struct terms {
 static const uint8_t number_lines[] = "7\n300\n5\n";
 static const struct terms numbers = {number_lines, COUNT(number_lines) - 1, 4};
 
+/* The first line alone, up to one step, and up to the limit under which visits are not counted. */
+static const struct terms one_number = {number_lines, 2, 1};
+static const struct terms no_limit = {number_lines, 2, UINT64_MAX};
+
 /* Three are blank, two are no numbers, one is out of range, and after them five steps find the input ended. */
 static const uint8_t other_lines[] = "\n\n\nx\nx\n9223372036854775808\n";
 static const struct terms skipped = {other_lines, COUNT(other_lines) - 1, 31};
@@ -277,6 +281,67 @@ static void run(uint32_t edition, struct terms terms, uint64_t *answer, size_t a
     print_room(&room);
 }
 
+struct visits_call {
+    size_t n;
+    const uint32_t *rows;
+    size_t rows_length;
+    const uint32_t *exits;
+    size_t exits_length;
+    uint32_t edition;
+    uint64_t limit;
+    bool abstract_mode;
+    const uint8_t *input;
+    size_t input_length;
+    int64_t *stack;
+    size_t stack_length;
+    uint8_t *kinds;
+    size_t kinds_length;
+    int64_t *values;
+    size_t values_length;
+    uint64_t *visits;
+    size_t visits_length;
+    uint32_t *unvisited;
+    size_t unvisited_length;
+    uint64_t *answer;
+    size_t answer_length;
+};
+
+static uint32_t pass_visits(struct visits_call call)
+{
+    return piet_visits(call.n, call.rows, call.rows_length, call.exits, call.exits_length, call.edition,
+                       call.limit, call.abstract_mode, call.input, call.input_length,
+                       call.stack, call.stack_length, call.kinds, call.kinds_length,
+                       call.values, call.values_length, call.visits, call.visits_length,
+                       call.unvisited, call.unvisited_length, call.answer, call.answer_length);
+}
+
+static void visits(uint32_t edition, struct terms terms, uint64_t *answer, size_t answer_length)
+{
+    struct room room;
+    uint64_t counts[7];
+    uint32_t list[6];
+    fill_room(&room);
+    FILL(counts, 77);
+    FILL(list, 78);
+    struct visits_call call = {
+        .n = REGIONS,
+        .rows = row_cells, .rows_length = COUNT(row_cells),
+        .exits = exit_cells, .exits_length = COUNT(exit_cells),
+        .edition = edition, .limit = terms.limit, .abstract_mode = false,
+        .input = terms.input, .input_length = terms.input_length,
+        .stack = room.stack, .stack_length = COUNT(room.stack),
+        .kinds = room.kinds, .kinds_length = COUNT(room.kinds),
+        .values = room.values, .values_length = COUNT(room.values),
+        .visits = counts, .visits_length = COUNT(counts),
+        .unvisited = list, .unvisited_length = COUNT(list),
+        .answer = answer, .answer_length = answer_length,
+    };
+    print_returned("piet_visits", pass_visits(call), answer, answer_length);
+    print_room(&room);
+    PRINT("visits", counts, COUNT(counts));
+    PRINT("unvisited", list, COUNT(list));
+}
+
 struct run_picture_call {
     const uint8_t *pixels;
     size_t pixels_length, height, width;
@@ -419,15 +484,22 @@ static void tables(void)
 static void runs(void)
 {
     uint64_t short_run[PIET_RUN_ANSWER - 1], long_run[PIET_RUN_ANSWER + 1];
+    uint64_t short_visits[PIET_VISITS_ANSWER - 1], long_visits[PIET_VISITS_ANSWER + 1];
     uint64_t short_picture[PIET_RUN_PICTURE_ANSWER - 1], long_picture[PIET_RUN_PICTURE_ANSWER + 1];
     FILL(short_run, 93);
+    FILL(short_visits, 94);
     FILL(short_picture, 94);
     FILL(long_run, 95);
+    FILL(long_visits, 96);
     FILL(long_picture, 96);
     run(PIET_EDITION_RUST, numbers, long_run, COUNT(long_run));
     run(PIET_EDITION_RUST, skipped, long_run, COUNT(long_run));
     run(NO_EDITION, numbers, long_run, COUNT(long_run));
     run(PIET_EDITION_RUST, numbers, short_run, COUNT(short_run));
+    visits(PIET_EDITION_RUST, one_number, long_visits, COUNT(long_visits));
+    visits(NO_EDITION, one_number, long_visits, COUNT(long_visits));
+    visits(PIET_EDITION_RUST, no_limit, long_visits, COUNT(long_visits));
+    visits(PIET_EDITION_RUST, one_number, short_visits, COUNT(short_visits));
     run_picture(PIET_EDITION_RUST, numbers, long_picture, COUNT(long_picture));
     run_picture(PIET_EDITION_RUST, skipped, long_picture, COUNT(long_picture));
     run_picture(NO_EDITION, numbers, long_picture, COUNT(long_picture));

@@ -1,9 +1,10 @@
 //! The calls over lent slices.
 use crate::ended::{RUN_ANSWER, RUN_PICTURE_ANSWER};
 use crate::raw;
+use crate::visited::VISITS_ANSWER;
 use crate::{
     Colour, Edition, Ended, Picture, PictureRoom, Pictured, Refusal, RunRoom, Shape, Table, TableRoom, Terms,
-    Unknown,
+    Unknown, Visited, VisitsRoom,
 };
 
 /// The colour numbers of pixels, three bytes each, into the first height x width cells of `colours`.
@@ -69,6 +70,41 @@ pub fn run(table: Table, edition: Edition, terms: Terms, room: RunRoom) -> Resul
     let number = raw::run(table, edition.number().into(), terms, room, &mut answer);
     Refusal::unless_done(number, [0; 2])?;
     Ok(Ended::of(answer))
+}
+
+/// A run over a table, as [`run`], with each region's visits counted: the start counts once for region 0, and each step
+/// once for the region that it reaches. A step that is not taken counts nothing, and neither does a lost slide.
+///
+/// With n regions, the first n cells of `visits` get the counts, which together are the steps and one more; the first n
+/// of `unvisited` get the nodes that were never entered, and zeros after them. The cells past n stay. A region that is
+/// no node is counted and never listed. [`Table::visits`] allocates the room.
+///
+/// ```
+/// use piet::{Edition, RunRoom, Table, Terms, VisitsRoom};
+///
+/// // Three nodes. The first leads to itself, and so a run enters no other.
+/// let rows = [[6, 1, 0, 0, 1], [8, 1, 0, 1, 1], [10, 1, 0, 2, 1]].concat();
+/// let exits = [[1, 0, 0, 0, 0, 0, 0, 0], [0; 8], [0; 8]].concat();
+/// let table = Table { regions: 3, rows: &rows, exits: &exits };
+/// let terms = Terms { limit: 5, abstract_mode: false, input: b"" };
+///
+/// let (mut visits, mut unvisited) = ([7; 4], [7; 4]);
+/// let run = RunRoom { stack: &mut [], kinds: &mut [], values: &mut [] };
+/// let room = VisitsRoom { run, visits: &mut visits, unvisited: &mut unvisited };
+/// let visited = piet::visits(table, Edition::Rust, terms, room)?;
+/// assert_eq!((visited.ended.steps, visited.unvisited), (5, 2));
+/// assert_eq!((visits, unvisited), ([6, 0, 0, 7], [1, 2, 0, 7]));
+/// # Ok::<(), piet::Refusal>(())
+/// ```
+///
+/// # Errors
+///
+/// Table, Limit (2^64 - 1), Room (of `visits` or `unvisited`): the first that holds.
+pub fn visits(table: Table, edition: Edition, terms: Terms, room: VisitsRoom) -> Result<Visited, Refusal> {
+    let mut answer = [0; VISITS_ANSWER];
+    let number = raw::visits(table, edition.number().into(), terms, room, &mut answer);
+    Refusal::unless_done(number, [0; 2])?;
+    Ok(Visited::of(answer))
 }
 
 /// The run of a picture: classifying, building and running in one call, both of these in the same edition.

@@ -35,6 +35,17 @@ pub struct RunRoom<'a> {
     pub values: &'a mut [i64],
 }
 
+/// The slices that a run is lent whose visits are counted. A table of n regions needs n cells in the last two.
+#[derive(Debug)]
+pub struct VisitsRoom<'a> {
+    /// The run's room.
+    pub run: RunRoom<'a>,
+    /// How often each region was entered.
+    pub visits: &'a mut [u64],
+    /// The nodes that were never entered, by their region numbers in rising order; then zeros up to n cells.
+    pub unvisited: &'a mut [u32],
+}
+
 /// The slices that the run of a picture is lent: those of classifying, of building and of running.
 #[derive(Debug)]
 pub struct PictureRoom<'a> {

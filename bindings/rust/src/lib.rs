@@ -14,7 +14,8 @@
 //! # Ok::<(), piet::Error>(())
 //! ```
 //!
-//! [`Pixels::of_p6`] reads the pixels of a Netpbm P6 file, and [`Picture::to_p6`] writes them as one.
+//! [`Pixels::of_p6`] reads the pixels of a Netpbm P6 file, and [`Picture::to_p6`] writes them as one. [`Table::visits`]
+//! counts how often a run enters each region.
 #![deny(missing_docs, unsafe_code)]
 
 mod calls;
@@ -35,14 +36,17 @@ mod raw;
 mod refusal;
 mod skipped;
 mod table;
+mod visited;
 
-pub use calls::{build, classify, determine_runs_forever, label, read_p6, run, run_picture, write_p6};
+pub use calls::{
+    build, classify, determine_runs_forever, label, read_p6, run, run_picture, visits, write_p6,
+};
 pub use colour::{Colour, Unknown};
 pub use edition::Edition;
 pub use ended::{Ended, Pictured, Status};
 pub use error::Error;
 pub use instruction::Instruction;
-pub use lent::{PictureRoom, RunRoom, TableRoom, Terms};
+pub use lent::{PictureRoom, RunRoom, TableRoom, Terms, VisitsRoom};
 pub use numbers::NoSuch;
 pub use output::Output;
 pub use p6::{Pixels, P6_HEADER};
@@ -52,3 +56,4 @@ pub use pointers::{Cc, Dp, Pointers};
 pub use refusal::Refusal;
 pub use skipped::Skipped;
 pub use table::{Attempt, Exit, Region, Table, EXITS, LABEL, ROW};
+pub use visited::{Visited, Visits};

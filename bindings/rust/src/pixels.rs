@@ -81,7 +81,8 @@ pub fn run_pixels(picture: Picture, edition: Edition, terms: Terms, cells: Cells
     Ok(Told { ended, regions, region, stack, outputs })
 }
 
-fn outputs_of(kinds: &[u8], values: &[i64], count: usize) -> Result<Vec<Output>, Error> {
+/// So many outputs of a run, of the cells that it left.
+pub(crate) fn outputs_of(kinds: &[u8], values: &[i64], count: usize) -> Result<Vec<Output>, Error> {
     let mut outputs = reserved(count)?;
     let cells = kinds.iter().zip(values).take(count);
     outputs.extend(cells.map(|(&kind, &value)| proved(Output::of(kind, value))));

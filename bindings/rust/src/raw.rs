@@ -3,7 +3,7 @@
 //! C has a slice as a pointer and a length, and the archive wants no null pointer. The pointer of a Rust slice is never
 //! null: that of an empty one dangles, but it is aligned and not null, and the archive reads no element of it. `&mut`
 //! slices can't overlap, so neither can those that are written. `bool` is one byte, 0 or 1, on both sides.
-use crate::{PictureRoom, RunRoom, Shape, Table, TableRoom, Terms};
+use crate::{PictureRoom, RunRoom, Shape, Table, TableRoom, Terms, VisitsRoom};
 
 #[cfg(not(target_arch = "x86_64"))]
 compile_error!("libpiet_c.a is for x86-64");
@@ -76,6 +76,30 @@ extern "C" {
         kinds_length: usize,
         values: *mut i64,
         values_length: usize,
+        answer: *mut u64,
+        answer_length: usize,
+    ) -> u32;
+    fn piet_visits(
+        n: usize,
+        rows: *const u32,
+        rows_length: usize,
+        exits: *const u32,
+        exits_length: usize,
+        edition: u32,
+        limit: u64,
+        abstract_mode: bool,
+        input: *const u8,
+        input_length: usize,
+        stack: *mut i64,
+        stack_length: usize,
+        kinds: *mut u8,
+        kinds_length: usize,
+        values: *mut i64,
+        values_length: usize,
+        visits: *mut u64,
+        visits_length: usize,
+        unvisited: *mut u32,
+        unvisited_length: usize,
         answer: *mut u64,
         answer_length: usize,
     ) -> u32;
@@ -212,6 +236,38 @@ pub fn run(table: Table, edition: u32, terms: Terms, room: RunRoom, answer: &mut
             room.kinds.len(),
             room.values.as_mut_ptr(),
             room.values.len(),
+            answer.as_mut_ptr(),
+            answer.len(),
+        )
+    }
+}
+
+/// The edition may have any number and the answer any length, as for [`build`].
+pub fn visits(table: Table, edition: u32, terms: Terms, room: VisitsRoom, answer: &mut [u64]) -> u32 {
+    let VisitsRoom { run, visits, unvisited } = room;
+    // SAFETY: each pointer comes with the length of its slice
+    unsafe {
+        piet_visits(
+            table.regions,
+            table.rows.as_ptr(),
+            table.rows.len(),
+            table.exits.as_ptr(),
+            table.exits.len(),
+            edition,
+            terms.limit,
+            terms.abstract_mode,
+            terms.input.as_ptr(),
+            terms.input.len(),
+            run.stack.as_mut_ptr(),
+            run.stack.len(),
+            run.kinds.as_mut_ptr(),
+            run.kinds.len(),
+            run.values.as_mut_ptr(),
+            run.values.len(),
+            visits.as_mut_ptr(),
+            visits.len(),
+            unvisited.as_mut_ptr(),
+            unvisited.len(),
             answer.as_mut_ptr(),
             answer.len(),
         )

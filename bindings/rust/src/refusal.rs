@@ -45,6 +45,8 @@ pub enum Refusal {
     Length,
     /// 15: an edition other than 1 and 2, which [`crate::Edition`] refuses to be made of.
     Edition,
+    /// 16: visits are to be counted up to a limit of 2^64 - 1, so that a count need not fit.
+    Limit,
 }
 
 impl Refusal {
@@ -65,6 +67,7 @@ impl Refusal {
             Refusal::Header => 13,
             Refusal::Length => 14,
             Refusal::Edition => 15,
+            Refusal::Limit => 16,
         }
     }
 
@@ -93,6 +96,7 @@ impl Refusal {
             13 => Refusal::Header,
             14 => Refusal::Length,
             15 => Refusal::Edition,
+            16 => Refusal::Limit,
             _ => return None,
         })
     }
@@ -117,6 +121,7 @@ impl fmt::Display for Refusal {
             Refusal::Header => write!(f, "no P6 header, or another maximum than 255"),
             Refusal::Length => write!(f, "too few or too many bytes after the P6 header"),
             Refusal::Edition => write!(f, "the edition is neither 1 nor 2"),
+            Refusal::Limit => write!(f, "visits are to be counted up to a limit of 2^64 - 1"),
         }
     }
 }

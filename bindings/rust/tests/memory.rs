@@ -1,5 +1,5 @@
 //! Memory that can't be had is an error: for lengths that no machine has, and at every single request.
-use piet::{run_pixels, Cells, Edition, Error, Picture, Pixels, Refusal, Shape, Terms};
+use piet::{run_pixels, Cells, Edition, Error, Output, Picture, Pixels, Refusal, Shape, Table, Terms};
 use std::alloc::{GlobalAlloc, Layout, System};
 use std::cell::Cell;
 
@@ -36,6 +36,13 @@ const SHAPE: Shape = Shape { height: 1, width: 5, codel: 1 };
 const TERMS: Terms = Terms { limit: 4, abstract_mode: false, input: b"65\n" };
 const CELLS: Cells = Cells { stack: 8, outputs: 8 };
 
+/// By IntIn from the first region to the second, and by IntOut back.
+const TABLE: Table = Table {
+    regions: 2,
+    rows: &[6, 1, 0, 0, 1, 16, 1, 0, 1, 1],
+    exits: &[2 + 16 * 524_288, 0, 0, 0, 0, 0, 0, 0, 1 + 17 * 524_288, 0, 0, 0, 0, 0, 0, 0],
+};
+
 /// The answer of a call where so many requests are granted.
 fn granted<T>(requests: usize, call: impl FnOnce() -> Result<T, Error>) -> Result<T, Error> {
     GRANTED.set(Some(requests));
@@ -53,6 +60,17 @@ fn every_request_may_fail() {
     }
     let told = granted(9, run).unwrap();
     assert_eq!(told.to_string(), "status 2\nsteps 4\nat LightRed_0_4 0 0\nstack 0\nout 2 c65 i65\n");
+}
+
+/// Five slices and the outputs.
+#[test]
+fn every_request_for_visits_may_fail() {
+    let run = || TABLE.visits(Edition::Rust, TERMS, CELLS);
+    for requests in 0..6 {
+        assert_eq!(granted(requests, run), Err(Error::Memory), "with {requests} granted");
+    }
+    let visits = granted(6, run).unwrap();
+    assert_eq!((visits.counts, visits.outputs), (vec![3, 2], vec![Output::Int(65)]));
 }
 
 /// A file that is read, and one that is written, is one request each.
@@ -74,6 +92,7 @@ fn lengths_that_no_machine_has() {
         let picture = Picture::of(&PIXELS, SHAPE);
         for cells in [Cells { stack: cells, ..CELLS }, Cells { outputs: cells, ..CELLS }] {
             assert_eq!(run_pixels(picture, Edition::Rust, TERMS, cells), Err(Error::Memory));
+            assert_eq!(TABLE.visits(Edition::Rust, TERMS, cells), Err(Error::Memory));
         }
     }
 }
@@ -101,5 +120,14 @@ fn sides_that_no_picture_has() {
             assert_eq!(refused(side, side, codel), Error::Refused(Refusal::Size));
             assert_eq!(refused(1, side, codel), Error::Refused(Refusal::Size));
         }
+    }
+}
+
+/// A count of regions that no table has asks for no more than the largest table.
+#[test]
+fn regions_that_no_table_has() {
+    for regions in [65_537, 1 << 60, isize::MAX as usize, usize::MAX] {
+        let visits = Table { regions, ..TABLE }.visits(Edition::Rust, TERMS, CELLS);
+        assert_eq!(visits, Err(Error::Refused(Refusal::Table)));
     }
 }

@@ -1,19 +1,27 @@
-//! What the safe calls do not show: numbers that their types rule out are refused by the archive too, and the answers of
-//! refused calls.
-use super::{build, classify, label, read_p6, run, run_picture, write_p6};
-use crate::{PictureRoom, RunRoom, Shape, Table, TableRoom, Terms, LABEL};
+//! What the safe calls do not show: numbers that their types rule out are refused by the archive too, the answers of
+//! refused calls, and that no length is another slice's.
+use super::{build, classify, label, read_p6, run, run_picture, visits, write_p6};
+use crate::{PictureRoom, RunRoom, Shape, Table, TableRoom, Terms, VisitsRoom, LABEL};
 
 const RED: [u8; 3] = [0xFF, 0, 0];
 const ONE_PIXEL: Shape = Shape { height: 1, width: 1, codel: 1 };
 /// One region, which IntIn leads back to.
 const LOOP: Table =
     Table { regions: 1, rows: &[6, 1, 0, 0, 1], exits: &[1 + 16 * 524_288, 0, 0, 0, 0, 0, 0, 0] };
+/// The same, and a node that nothing leads to.
+const LOOP_AND_NODE: Table = Table {
+    regions: 2,
+    rows: &[6, 1, 0, 0, 1, 8, 1, 0, 1, 1],
+    exits: &[1 + 16 * 524_288, 0, 0, 0, 0, 0, 0, 0, 0, 0, 0, 0, 0, 0, 0, 0],
+};
 const TERMS: Terms = Terms { limit: 3, abstract_mode: false, input: b"x\n\n5" };
+/// The limit under which no visits are counted.
+const NO_LIMIT: Terms = Terms { limit: u64::MAX, ..TERMS };
 
 /// Numbers that name no edition; in fewer bits some of them would.
 const NO_EDITIONS: [u32; 8] = [0, 3, 4, 257, 258, 65_537, 1 << 31, u32::MAX];
 
-/// What the run of a picture of one codel is lent.
+/// What the run of a picture of one codel is lent, and more than the visits of two regions need.
 #[derive(Clone, Debug, PartialEq)]
 struct Lent {
     colours: Vec<u8>,
@@ -21,20 +29,52 @@ struct Lent {
     stack: [i64; 1],
     kinds: [u8; 1],
     values: [i64; 1],
+    visits: [u64; 3],
+    unvisited: [u32; 3],
 }
 
 impl Lent {
     /// Every cell is 7, to be found again where it stays.
     fn full() -> Self {
         let table = [1, 5, 8, 1].map(|cells| vec![7; cells]);
-        Lent { colours: vec![7], table, stack: [7], kinds: [7], values: [7] }
+        Lent {
+            colours: vec![7],
+            table,
+            stack: [7],
+            kinds: [7],
+            values: [7],
+            visits: [7; 3],
+            unvisited: [7; 3],
+        }
     }
 
     fn room(&mut self) -> PictureRoom<'_> {
-        let Lent { colours, table: [map, rows, exits, work], stack, kinds, values } = self;
+        let Lent { colours, table: [map, rows, exits, work], stack, kinds, values, .. } = self;
         let (table, run) = (TableRoom { map, rows, exits, work }, RunRoom { stack, kinds, values });
         PictureRoom { colours, table, run }
     }
+
+    /// The room for visits, with so many cells of the list.
+    fn counting(&mut self, listed: usize) -> VisitsRoom<'_> {
+        let Lent { stack, kinds, values, visits, unvisited, .. } = self;
+        VisitsRoom { run: RunRoom { stack, kinds, values }, visits, unvisited: &mut unvisited[..listed] }
+    }
+}
+
+/// Where the lengths of two slices are swapped of which a call asks the same, no answer tells it, so it is the text that is
+/// looked at: in the calls with an argument a line, each pointer comes with the length of its slice.
+#[test]
+fn lengths_of_slices() {
+    let lines: Vec<&str> = include_str!("../raw.rs").lines().map(str::trim).collect();
+    let mut pointers = 0;
+    for pair in lines.windows(2) {
+        let lent = pair[0].strip_suffix(".as_ptr(),").or(pair[0].strip_suffix(".as_mut_ptr(),"));
+        if let Some(slice) = lent {
+            assert_eq!(pair[1], format!("{slice}.len(),"));
+            pointers += 1;
+        }
+    }
+    assert!(pointers > 30, "found {pointers}");
 }
 
 #[test]
@@ -64,28 +104,29 @@ fn settings_above_3_for_a_picture() {
 }
 
 /// A call that is given an edition, what it is lent, and where it answers.
-type Call<'a> = &'a dyn Fn(u32, PictureRoom, &mut [u64]) -> u32;
+type Call<'a> = &'a dyn Fn(u32, &mut Lent, &mut [u64]) -> u32;
 
-/// The edition comes before what else is wrong, here a side, a setting and a count of regions, but for too short an answer,
-/// which comes first.
+/// The edition comes before what else is wrong, here a side, a setting, a count of regions, a limit and a list without
+/// cells, but for too short an answer, which comes first.
 #[test]
 fn editions_that_are_none() {
     let (no_side, no_region) = (Shape { height: 0, ..ONE_PIXEL }, Table { regions: 0, ..LOOP });
-    let calls: [(usize, Call); 3] = [
-        (2, &|edition, room, answer| build(&[20], no_side, edition, room.table, answer)),
-        (12, &|edition, room, answer| run(no_region, edition, TERMS, room.run, answer)),
-        (13, &|edition, room, answer| run_picture((&RED, no_side, 4), edition, TERMS, room, answer)),
+    let calls: [(usize, Call); 4] = [
+        (2, &|edition, lent, answer| build(&[20], no_side, edition, lent.room().table, answer)),
+        (12, &|edition, lent, answer| run(no_region, edition, TERMS, lent.room().run, answer)),
+        (13, &|edition, lent, answer| visits(no_region, edition, NO_LIMIT, lent.counting(0), answer)),
+        (13, &|edition, lent, answer| run_picture((&RED, no_side, 4), edition, TERMS, lent.room(), answer)),
     ];
     for (cells, call) in calls {
         for edition in NO_EDITIONS {
             let (mut lent, mut answer) = (Lent::full(), vec![7; cells + 1]);
-            assert_eq!(call(edition, lent.room(), &mut answer[..cells - 1]), 4);
+            assert_eq!(call(edition, &mut lent, &mut answer[..cells - 1]), 4);
             assert_eq!(answer, vec![7; cells + 1]);
-            assert_eq!(call(edition, lent.room(), &mut answer), 15);
+            assert_eq!(call(edition, &mut lent, &mut answer), 15);
             assert_eq!((lent, answer), (Lent::full(), [vec![0; cells], vec![7]].concat()));
         }
         for edition in [1, 2] {
-            assert_ne!(call(edition, Lent::full().room(), &mut vec![7; cells]), 15);
+            assert_ne!(call(edition, &mut Lent::full(), &mut vec![7; cells]), 15);
         }
     }
 }
@@ -101,6 +142,22 @@ fn cells_of_a_run() {
         } else {
             assert_eq!((number, &answer[..12]), (0, &[2, 3, 0, 0, 0, 1, 0, 4, 0, 1, 1, 0][..]));
             assert_eq!(answer[12..], vec![7; cells - 12]);
+        }
+    }
+}
+
+/// Visits have the twelve of their run, and then the count of nodes never entered.
+#[test]
+fn cells_of_visits() {
+    for cells in 0..=14 {
+        let (mut lent, mut answer) = (Lent::full(), vec![7; cells]);
+        let number = visits(LOOP_AND_NODE, 1, TERMS, lent.counting(3), &mut answer);
+        if cells < 13 {
+            assert_eq!((number, lent, answer), (4, Lent::full(), vec![7; cells]));
+        } else {
+            assert_eq!((number, &answer[..13]), (0, &[2, 3, 0, 0, 0, 1, 0, 4, 0, 1, 1, 0, 1][..]));
+            assert_eq!((lent.visits, lent.unvisited), ([4, 0, 7], [1, 0, 7]));
+            assert_eq!(answer[13..], vec![7; cells - 13]);
         }
     }
 }
@@ -132,6 +189,25 @@ fn refused_runs() {
     let before = lent.clone();
     assert_eq!(run_picture((b"\xFF\0\0abc", one_row, 1), 1, TERMS, lent.room(), &mut answer), 5);
     assert_eq!((lent, answer), (before, [0, 1, 0, 0, 0, 0, 0, 0, 0, 0, 0, 0, 0]));
+}
+
+/// Each of these is refused for what comes first, and leaves zeros in the answer.
+#[test]
+fn refused_visits() {
+    let no_table = Table { regions: 3, ..LOOP_AND_NODE };
+    let cases = [
+        (15, 0, no_table, NO_LIMIT, 0),
+        (10, 1, no_table, NO_LIMIT, 0),
+        (16, 1, LOOP_AND_NODE, NO_LIMIT, 0),
+        (16, 1, LOOP_AND_NODE, NO_LIMIT, 2),
+        (4, 1, LOOP_AND_NODE, TERMS, 0),
+        (4, 1, LOOP_AND_NODE, TERMS, 1),
+    ];
+    for (refusal, edition, table, terms, listed) in cases {
+        let (mut lent, mut answer) = (Lent::full(), [7; 14]);
+        assert_eq!(visits(table, edition, terms, lent.counting(listed), &mut answer), refusal);
+        assert_eq!((lent, answer), (Lent::full(), [0, 0, 0, 0, 0, 0, 0, 0, 0, 0, 0, 0, 0, 7]));
+    }
 }
 
 /// A refused call leaves zeros in the answer, whatever stood there.

@@ -1,8 +1,8 @@
 //! Pictures by chance: one call for a picture is classifying, building and running, one after the other.
-use crate::support::{pixel, Slices, UNKNOWN};
+use crate::support::{counted, pixel, row_of, Slices, UNKNOWN};
 use piet::{
-    build, classify, run, run_picture, run_pixels, Attempt, Cells, Colour, Edition, Error, Output, Picture,
-    Pictured, Refusal, Shape, Skipped, Terms, Told, Unknown, ROW,
+    build, classify, run, run_picture, run_pixels, Attempt, Cells, Colour, Edition, Error, Picture, Pictured,
+    Refusal, Shape, Skipped, Table, Terms, Told, Unknown, ROW,
 };
 use std::collections::BTreeSet;
 
@@ -203,11 +203,7 @@ fn lost_slides(rust: &[Vec<u32>; 4], page: &[Vec<u32>; 4]) -> usize {
 fn told_is((Pictured { ended, regions }, told): (Pictured, Told), slices: &Slices) {
     assert_eq!((told.ended, told.regions), (ended, regions));
     assert_eq!(told.stack, slices.stack[..ended.depth]);
-    let outputs = slices.kinds.iter().zip(&slices.values).take(ended.outputs);
-    assert_eq!(
-        told.outputs,
-        outputs.map(|(&kind, &value)| Output::of(kind, value).unwrap()).collect::<Vec<_>>()
-    );
+    assert_eq!(told.outputs, slices.outputs(ended.outputs));
     let region = slices.table(regions).region(ended.region).unwrap();
     assert_eq!(told.region, region);
 }
@@ -226,4 +222,33 @@ fn skipped_lines() {
         met.iter_mut().zip(counts).for_each(|(sum, count)| *sum += count);
     }
     assert!(met.iter().all(|&sum| sum > 100), "met {met:?}");
+}
+
+/// The regions that a run enters in so many steps: under each smaller limit it stops in one of them.
+fn entered(table: Table, question: &Question, steps: u64) -> Vec<usize> {
+    let under = |limit| {
+        let mut slices = Slices::of(row_of(0), question.cells);
+        run(table, question.edition, Terms { limit, ..question.terms() }, slices.lent().run).unwrap().region
+    };
+    (0..=steps).map(under).collect()
+}
+
+/// Each region is counted as often as the run enters it. Regions are met that are entered never, once and more often,
+/// and nodes that never are.
+#[test]
+fn visits_of_a_run() {
+    let (mut chance, mut met, mut listed) = (Chance(11), [0; 3], 0);
+    for _ in 0..PICTURES {
+        let question = Question::by(&mut chance);
+        let mut slices = Slices::of(question.shape, question.cells);
+        let Ok(Pictured { ended, regions }) = in_three_calls(&question, &mut slices) else { continue };
+        let table = slices.table(regions);
+        let mut expected = vec![0; regions];
+        entered(table, &question, ended.steps).into_iter().for_each(|region| expected[region] += 1);
+        let (visited, counts, _) = counted(table, question.edition, question.terms(), question.cells);
+        assert_eq!((visited.ended, &counts), (ended, &expected));
+        counts.iter().for_each(|&count| met[count.min(2) as usize] += 1);
+        listed += visited.unvisited;
+    }
+    assert!(met.into_iter().chain([listed]).all(|times| times > 1_000), "met {met:?}, listed {listed}");
 }

@@ -1,8 +1,8 @@
 //! The two editions: tables and runs where they differ, and the same answers next to these.
-use crate::support::{built_in, pixels, row_of, Slices, CELLS, TERMS};
+use crate::support::{built_in, drawn, pixels, row_of, Slices, CELLS, TERMS};
 use piet::{
     determine_runs_forever, run, run_picture, run_pixels, Attempt, Cc, Cells, Colour, Dp, Edition, Ended,
-    Exit, Instruction, Picture, Pointers, Refusal, Shape, Skipped, Status, Table, Terms, EXITS, MOST_CODELS,
+    Exit, Instruction, Picture, Pointers, Refusal, Skipped, Status, Table, Terms, EXITS, MOST_CODELS,
 };
 use Edition::{Page, Rust};
 use Instruction::{CharIn, Div, IntIn, Mod, Roll};
@@ -18,19 +18,6 @@ const BOTH_SLIDES: &str = "R../.#.";
 /// A white spiral with nine right turns to a red codel in the middle.
 const SPIRAL: &str =
     "R......./#######./......#./.####.#./.#..#.#./.#.R#.#./.#.##.#./.#....#./.######./........";
-
-/// A picture of red (R), white (.) and black (#) codels of one pixel, with a stroke between rows.
-fn drawn(rows: &str) -> (Vec<Colour>, Shape) {
-    let colour = |letter| match letter {
-        'R' => Colour::Red,
-        '.' => Colour::White,
-        '#' => Colour::Black,
-        _ => panic!("no colour is {letter}"),
-    };
-    let rows: Vec<&str> = rows.split('/').collect();
-    let shape = Shape { height: rows.len(), width: rows[0].len(), codel: 1 };
-    (rows.concat().chars().map(colour).collect(), shape)
-}
 
 fn table_of(rows: &str, edition: Edition) -> (usize, Slices) {
     let (colours, shape) = drawn(rows);

@@ -1,7 +1,7 @@
 //! Refusals and errors: numbers and texts.
 use piet::{Colour, Error, Refusal, Unknown};
 
-const REFUSALS: [Refusal; 14] = [
+const REFUSALS: [Refusal; 15] = [
     Refusal::Size,
     Refusal::Bytes,
     Refusal::Setting,
@@ -16,11 +16,12 @@ const REFUSALS: [Refusal; 14] = [
     Refusal::Header,
     Refusal::Length,
     Refusal::Edition,
+    Refusal::Limit,
 ];
 
 #[test]
 fn numbers() {
-    assert_eq!(REFUSALS.map(Refusal::number), [1, 2, 3, 4, 5, 6, 7, 8, 9, 10, 12, 13, 14, 15]);
+    assert_eq!(REFUSALS.map(Refusal::number), [1, 2, 3, 4, 5, 6, 7, 8, 9, 10, 12, 13, 14, 15, 16]);
 }
 
 #[test]

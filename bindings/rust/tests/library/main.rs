@@ -12,4 +12,5 @@ mod shapes;
 mod skipped;
 mod support;
 mod tables;
+mod visits;
 mod worked;

@@ -1,7 +1,7 @@
 //! What several tests share: pixels, terms, and the room of a picture's run.
 use piet::{
-    Cells, Colour, Edition, PictureRoom, Refusal, RunRoom, Shape, Table, TableRoom, Terms, Unknown, EXITS,
-    ROW,
+    Cells, Colour, Edition, Output, PictureRoom, Refusal, RunRoom, Shape, Table, TableRoom, Terms, Unknown,
+    Visited, Visits, VisitsRoom, EXITS, ROW,
 };
 
 /// What every lent cell holds before a call, to be found again where it stays.
@@ -41,6 +41,20 @@ pub fn row_of(width: usize) -> Shape {
     Shape { height: 1, width, codel: 1 }
 }
 
+/// A picture of light red (r), red (R), white (.) and black (#) codels of one pixel, with a stroke between rows.
+pub fn drawn(rows: &str) -> (Vec<Colour>, Shape) {
+    let colour = |letter| match letter {
+        'r' => Colour::LightRed,
+        'R' => Colour::Red,
+        '.' => Colour::White,
+        '#' => Colour::Black,
+        _ => panic!("no colour is {letter}"),
+    };
+    let rows: Vec<&str> = rows.split('/').collect();
+    let shape = Shape { height: rows.len(), width: rows[0].len(), codel: 1 };
+    (rows.concat().chars().map(colour).collect(), shape)
+}
+
 /// The room of a picture's run, owned.
 #[derive(Clone, Debug, PartialEq, Eq)]
 pub struct Slices {
@@ -78,6 +92,35 @@ impl Slices {
     pub fn table(&self, regions: usize) -> Table<'_> {
         Table { regions, rows: &self.table[1], exits: &self.table[2] }
     }
+
+    /// The outputs that these cells stand for, so many of them.
+    pub fn outputs(&self, count: usize) -> Vec<Output> {
+        let cells = self.kinds.iter().zip(&self.values).take(count);
+        cells.map(|(&kind, &value)| Output::of(kind, value).expect("an output")).collect()
+    }
+}
+
+/// The room of a run whose visits are counted, owned.
+#[derive(Clone, Debug, PartialEq, Eq)]
+pub struct Counting {
+    pub run: Slices,
+    pub visits: Vec<u64>,
+    pub unvisited: Vec<u32>,
+}
+
+impl Counting {
+    /// So many cells for the counts and for the list, every cell with the pattern.
+    pub fn of(visits: usize, unvisited: usize, cells: Cells) -> Self {
+        Counting {
+            run: Slices::of(row_of(0), cells),
+            visits: vec![PATTERN.into(); visits],
+            unvisited: vec![PATTERN.into(); unvisited],
+        }
+    }
+
+    pub fn lent(&mut self) -> VisitsRoom<'_> {
+        VisitsRoom { run: self.run.lent().run, visits: &mut self.visits, unvisited: &mut self.unvisited }
+    }
 }
 
 /// The refusal of a call, which has to leave every slice as it was.
@@ -108,4 +151,34 @@ pub fn built(colours: &[Colour], shape: Shape) -> (usize, Slices) {
 pub fn classified(pixel: [u8; 3], unknown: Unknown) -> Result<u8, Refusal> {
     let mut colours = [PATTERN; 1];
     piet::classify(&pixel, (1, 1), unknown, &mut colours).map(|()| colours[0])
+}
+
+/// Where a run stopped whose visits are counted, with the counts and the list up to n cells. Whatever the table is: the
+/// run is that of `run`, the counts together are the steps and one more, the list has the nodes without a count and zeros
+/// after them, the cells past n stay, and with the room made it is all the same.
+pub fn counted(table: Table, edition: Edition, terms: Terms, cells: Cells) -> (Visited, Vec<u64>, Vec<u32>) {
+    let n = table.regions;
+    let mut room = Counting::of(n + 1, n + 2, cells);
+    // the outputs' room is the shorter of their slices, and each is cleared to its end
+    room.run.values.push(PATTERN.into());
+    let mut slices = room.run.clone();
+    let visited = piet::visits(table, edition, terms, room.lent()).expect("an accepted table");
+    let Visited { ended, unvisited } = visited;
+
+    assert_eq!(piet::run(table, edition, terms, slices.lent().run), Ok(ended));
+    assert_eq!(room.run, slices);
+
+    let (counts, kept_counts) = room.visits.split_at(n);
+    let (list, kept_list) = room.unvisited.split_at(n);
+    assert_eq!((kept_counts, kept_list), (&[PATTERN.into()][..], &[PATTERN.into(); 2][..]));
+    assert_eq!(counts.iter().sum::<u64>(), ended.steps + 1);
+    let never_entered = |&region: &usize| table.rows[ROW * region + 4] == 1 && counts[region] == 0;
+    let nodes: Vec<u32> = (0..n).filter(never_entered).map(|region| region as u32).collect();
+    assert_eq!(list, [&nodes[..], &vec![0; n - nodes.len()]].concat());
+    assert_eq!(unvisited, nodes.len());
+
+    let (stack, outputs) = (slices.stack[..ended.depth].to_vec(), slices.outputs(ended.outputs));
+    let made = Visits { ended, stack, outputs, counts: counts.to_vec(), unvisited: nodes };
+    assert_eq!(table.visits(edition, terms, cells), Ok(made));
+    (visited, counts.to_vec(), list.to_vec())
 }
