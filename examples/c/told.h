@@ -19,15 +19,22 @@ struct told {
     const int64_t *values;
 };
 
-static void print_place(const struct told *told)
+/* The label of a region of these rows, after a blank. */
+static void print_label(const uint32_t *rows, uint64_t region)
 {
-    const uint64_t *answer = told->answer;
-    const uint32_t *row = told->rows + PIET_ROW * answer[PIET_RUN_REGION];
+    const uint32_t *row = rows + PIET_ROW * region;
     uint8_t label[PIET_LABEL_ROOM];
     uint64_t length = 0;
     piet_label((uint8_t)row[0], row[2], row[3], label, PIET_LABEL_ROOM, &length, PIET_LABEL_ANSWER);
-    printf("at %.*s %" PRIu64 " %" PRIu64 "\n", (int)length, (const char *)label, answer[PIET_RUN_DP],
-           answer[PIET_RUN_CC]);
+    printf(" %.*s", (int)length, (const char *)label);
+}
+
+static void print_place(const struct told *told)
+{
+    const uint64_t *answer = told->answer;
+    printf("at");
+    print_label(told->rows, answer[PIET_RUN_REGION]);
+    printf(" %" PRIu64 " %" PRIu64 "\n", answer[PIET_RUN_DP], answer[PIET_RUN_CC]);
 }
 
 /* The stack with its top first. */

@@ -103,15 +103,6 @@ static void print_shades(const struct table *table, const struct run *run)
     }
 }
 
-static void print_label(const struct table *table, size_t region)
-{
-    const uint32_t *row = table->rows + PIET_ROW * region;
-    uint8_t label[PIET_LABEL_ROOM];
-    uint64_t length = 0;
-    expect_done(piet_label((uint8_t)row[0], row[2], row[3], label, PIET_LABEL_ROOM, &length, PIET_LABEL_ANSWER));
-    printf(" %.*s", (int)length, (const char *)label);
-}
-
 /* The blocks that a run can stand in, the nodes; the last cell of a row is their mark. */
 static void print_counts(const struct table *table, const struct run *run)
 {
@@ -120,7 +111,7 @@ static void print_counts(const struct table *table, const struct run *run)
         sum += run->visits[region];
         if (table->rows[PIET_ROW * region + 4] == 1) {
             printf("%3" PRIu64, run->visits[region]);
-            print_label(table, region);
+            print_label(table->rows, region);
             printf("\n");
         }
     }
@@ -132,7 +123,7 @@ static void print_unvisited(const struct table *table, const struct run *run)
     uint64_t count = run->answer[PIET_RUN_UNVISITED];
     printf("never entered %" PRIu64, count);
     for (uint64_t i = 0; i < count; i++)
-        print_label(table, run->unvisited[i]);
+        print_label(table->rows, run->unvisited[i]);
     printf("\n");
 }
 
