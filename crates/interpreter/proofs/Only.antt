@@ -1,9 +1,9 @@
 -- Two outcomes that a contract allows for one input are equal, answer and every lent list, for each public function:
 --     run                       run-only
 --     resume                    resume-only
+--     run_counting              run-counting-only
 --     determine_runs_forever    forever-only
---     step                      step-only
---     begin, valid              `equation-only` of base's proofs/Only.antt
+--     valid                     `equation-only` of base's proofs/Only.antt
 -- and what the answers say:
 --     run-refusal               15 exactly where the edition is unknown, else 10 exactly where the table is not valid, and then
 --                               nothing changes
@@ -11,17 +11,19 @@
 -- Assumes nothing.
 use mathlib.Core.Path.{_≡_, refl, sym, ap, _∙_}
 use mathlib.Core.Bool.{Bool, true, false, not, cond}
-use mathlib.Core.List.{List, [], _∷_}
-use Prim.Native.Nat.{ℕ}
+use mathlib.Core.List.{List, [], _∷_, map}
+use Prim.Native.Nat.{ℕ, _+_, _<_}
+use native.Mathlib.Omega.{arith}
 use lib.Dec.{eqb}
-use lib.ListN.{getD}
+use lib.ListN.{length, getD}
+use lib.Seq.{ext-getD}
 use Rattle.base.specs.declared.edition.Edition.the-variants.{Rust}
 use Rattle.base.specs.Edition.{unknownEdition, editionOf}
 use Rattle.base.specs.Numbers.{Numbers, numbers, numberOf, valuesOf, row, first}
-use Rattle.base.proofs.Clash.{clash}
+use Rattle.base.specs.Counting.{count}
+use Rattle.table.specs.ExitNumber.{targetOf}
 use Rattle.machine.specs.Machine.{Given, Asks}
-use Rattle.machine.specs.declared.Stop.the-variants.{MaxSteps}
-use Rattle.machine.specs.Place.{End}
+use Rattle.machine.specs.Place.{Machine, End}
 use Rattle.machine.specs.Held.{Slices}
 use Rattle.machine.proofs.Only.{AsLong}
 use Rattle.interpreter.specs.declared.State.{State}
@@ -31,12 +33,11 @@ use Rattle.interpreter.specs.declared.Forever.{Forever}
 use Rattle.interpreter.specs.declared.Forever.the-variants.{Refused, Yes, No}
 use Rattle.interpreter.specs.Table.{wrongTable, validOf, every}
 use Rattle.interpreter.specs.Forever as Always
+use Rattle.interpreter.specs.Run.{Job}
 use Rattle.interpreter.specs.Outcome.{refused, numbered, Outcome}
-use Rattle.interpreter.specs.declared.stepping.Moved.{Moved}
-use Rattle.interpreter.specs.declared.stepping.Moved.the-variants.{To, Halted}
-use Rattle.interpreter.specs.Run.{goes, halts}
-use Rattle.interpreter.specs.Resume.{machineOf, Resumed}
-use Rattle.interpreter.specs.Moving.{nextOf, After, Stepped}
+use Rattle.interpreter.specs.Resume.{Resumed, Started}
+use Rattle.interpreter.specs.Gains.{Gains, GainsAll}
+use Rattle.interpreter.proofs.Histories.{histories-same}
 use Rattle.interpreter.proofs.Settled.{settled}
 use Rattle.interpreter.proofs.Answering.{Tested, unknown, wrong, right, test-call, answer-unknown, answer-wrong, answer-right, refuses, finishes}
 
@@ -88,24 +89,25 @@ module _ (n : ℕ) (rows exits : List ℕ) (g : Given) (l : Slices) (from : Stat
       let b = settled n _ l″ l r′ k q in
       (a .0 ∙ sym (b .0), a .1 ∙ sym (b .1))
 
--- a call leaves the length of a lent slice as it is
-module _ (n : ℕ) (rows exits : List ℕ) (g : Given) (l : Slices) (at : State) where
-  pub step-only : (r r′ : Moved) {l′ l″ : Slices} → AsLong l′ l → AsLong l″ l
-      → Stepped n rows exits g l at l′ r → Stepped n rows exits g l at l″ r′ → (r ≡ r′) × (l′ ≡ l″)
-  unfolding nextOf After
-  step-only (To a) (To b) {l′} {l″} h k p q =
-      let z : goes (machineOf l′ a) ≡ goes (machineOf l″ b) = p .is ∙ sym (q .is) in
-      let m : machineOf l′ a ≡ machineOf l″ b = cc in
-      let e : End = record { stop = MaxSteps; at = machineOf l″ b } in
-      let x = settled n e l′ l (record { stop = MaxSteps; at = a }) h (record { placed = p .leaves .0; stop = refl; at = m }) in
-      let y = settled n e l″ l (record { stop = MaxSteps; at = b }) k (record { placed = q .leaves .0; stop = refl; at = refl }) in
-      (ap (λ (t : Ended). To (t .at)) (x .0 ∙ sym (y .0)), x .1 ∙ sym (y .1))
-  step-only (To a) (Halted s) {l′} h k p q = let z : goes (machineOf l′ a) ≡ halts s = p .is ∙ sym (q .is) in clash cc
-  step-only (Halted s) (To b) {l″ = l″} h k p q = let z : halts s ≡ goes (machineOf l″ b) = p .is ∙ sym (q .is) in clash cc
-  step-only (Halted s) (Halted t) h k p q =
-      let z : halts s ≡ halts t = p .is ∙ sym (q .is) in
-      let e : s ≡ t = cc in
-      (ap Halted e, p .leaves ∙ sym (q .leaves))
+-- cells grow in one way
+gains-only : {j : Job} {k : ℕ} {m : Machine} {e : End} {v v′ v″ : List ℕ} → length v′ ≡ length v → length v″ ≡ length v
+    → Gains j k m e v v′ → Gains j k m e v v″ → v′ ≡ v″
+gains-only {j} {v = v} {v′} {v″} h i p q =
+    ext-getD 0 v′ v″ (h ∙ sym i)
+    (λ r k.
+    let b : r < length v = omega arith in
+    p .cells r b
+    ∙ ap (λ (ws : List ℕ). getD v r 0 + count r (map targetOf ws)) (histories-same j (p .history) (q .history))
+    ∙ sym (q .cells r b))
+
+module _ (n : ℕ) (rows exits : List ℕ) (g : Given) (l : Slices) (v : List ℕ) where
+  pub run-counting-only : (r r′ : Ended) {l′ l″ : Slices} {v′ v″ : List ℕ} → AsLong l′ l → AsLong l″ l → length v′ ≡ length v → length v″ ≡ length v
+      → Started n rows exits g l l′ r × GainsAll rows exits g l v v′ → Started n rows exits g l l″ r′ × GainsAll rows exits g l v v″
+      → (r ≡ r′) × (l′ ≡ l″) × (v′ ≡ v″)
+  run-counting-only r r′ {l′} {l″} h k x y p q =
+      let a = settled n _ l′ l r h (p .0) in
+      let b = settled n _ l″ l r′ k (q .0) in
+      (a .0 ∙ sym (b .0), a .1 ∙ sym (b .1), gains-only x y (p .1) (q .1))
 
 -- the answer that its numbers name
 abbrev toldBy : Numbers → Forever

@@ -7,11 +7,9 @@ mod validity;
 pub use endless::determine_runs_forever;
 use machine::Core;
 use machine::Stop;
-pub use running::begin;
 pub use running::resume;
 pub use running::run;
-pub use stepping::Moved;
-pub use stepping::step;
+pub use running::run_counting;
 pub use validity::WRONG_TABLE;
 pub use validity::valid;
 

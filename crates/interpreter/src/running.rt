@@ -1,9 +1,13 @@
 // Steps until a stop, from any place and from the start.
+ghost use mathlib.Core.Path.{_≡_};
+ghost use Prim.Native.Nat.{_+_, _-_, _^_, _<_};
+ghost use lib.ListN.{length, getD};
 ghost use Rattle.machine.specs.Machine.{given, JudgedIn, asks};
 ghost use Rattle.machine.specs.Held.{slices};
 ghost use Rattle.interpreter.specs.Table.{Good};
 ghost use Rattle.interpreter.specs.Resume.{Placed, Begun, Resumed, Started, Resumable};
 ghost use Rattle.interpreter.specs.Outcome.{Outcome};
+ghost use Rattle.interpreter.specs.Gains.{visited, CanCount, GainsFrom, GainsAll};
 use crate::Ended;
 use crate::Ran;
 use crate::State;
@@ -23,6 +27,56 @@ use machine::Skips;
 use machine::Stop;
 use machine::Terms;
 
+// One visit more of a region, where it has a cell.
+fn count_visit(visits: &mut [u64], region: u32)
+    requires { ⌜ (region < length (now visits) → getD (now visits) region 0 + 1 < 2 ^ 64) ⌝ }
+    ensures { λ _. ⌜ now (visits .exit) ≡ visited region (now (visits .entry)) ⌝ }
+{
+    let cell = region as usize;
+    if cell < visits.len() {
+        visits[cell] += 1;
+    }
+}
+
+// Steps from a place until a stop; each that is taken is a visit of the region that it reaches. This is the one loop of every
+// run: with a second one a step would be a call of its own, and take three times as long.
+fn resume_counting(
+    n: usize,
+    rows: &[u32],
+    exits: &[u32],
+    terms: Terms,
+    input: &[u8],
+    stack: &mut [i64],
+    kinds: &mut [u8],
+    values: &mut [i64],
+    visits: &mut [u64],
+    from: State,
+) -> Ended
+    requires { ⌜ Good n (now rows) (now exits) ⌝ }
+    requires { ⌜ Placed n (slices (now stack) (now kinds) (now values)) from ⌝ }
+    requires { ⌜ JudgedIn (given terms (now input)) (from .core .reading) ⌝ }
+    requires { ⌜ CanCount n (now visits) (terms .limit - from .steps) ⌝ }
+    ensures { λ r. ⌜ Resumed n (now (rows .entry)) (now (exits .entry)) (given terms (now (input .entry))) (slices (now (stack .entry)) (now (kinds .entry)) (now (values .entry))) from (slices (now (stack .exit)) (now (kinds .exit)) (now (values .exit))) r ⌝ }
+    ensures { λ _. ⌜ GainsFrom (now (rows .entry)) (now (exits .entry)) (given terms (now (input .entry))) (slices (now (stack .entry)) (now (kinds .entry)) (now (values .entry))) from (now (visits .entry)) (now (visits .exit)) ⌝ }
+{
+    let mut at = from;
+    while at.steps < terms.limit {
+        match step(n, rows, exits, terms, input, stack, kinds, values, at) {
+            Moved::To(next) => {
+                count_visit(visits, next.region);
+                at = next;
+            }
+            Moved::Halted(stop) => {
+                return Ended { stop, at };
+            }
+        }
+    }
+    Ended {
+        stop: Stop::MaxSteps,
+        at,
+    }
+}
+
 // Steps from a place until a stop.
 pub fn resume(
     n: usize,
@@ -40,25 +94,23 @@ pub fn resume(
     requires { ⌜ JudgedIn (given terms (now input)) (from .core .reading) ⌝ }
     ensures { λ r. ⌜ Resumed n (now (rows .entry)) (now (exits .entry)) (given terms (now (input .entry))) (slices (now (stack .entry)) (now (kinds .entry)) (now (values .entry))) from (slices (now (stack .exit)) (now (kinds .exit)) (now (values .exit))) r ⌝ }
 {
-    let mut at = from;
-    while at.steps < terms.limit {
-        match step(n, rows, exits, terms, input, stack, kinds, values, at) {
-            Moved::To(next) => {
-                at = next;
-            }
-            Moved::Halted(stop) => {
-                return Ended { stop, at };
-            }
-        }
-    }
-    Ended {
-        stop: Stop::MaxSteps,
-        at,
-    }
+    let mut uncounted = [0u64; 0];
+    resume_counting(
+        n,
+        rows,
+        exits,
+        terms,
+        input,
+        stack,
+        kinds,
+        values,
+        &mut uncounted,
+        from,
+    )
 }
 
 // The start: region 0, dp right, cc left, an empty stack, 0 steps. The slices are cleared for it.
-pub fn begin(stack: &mut [i64], kinds: &mut [u8], values: &mut [i64]) -> State
+fn begin(stack: &mut [i64], kinds: &mut [u8], values: &mut [i64]) -> State
     ensures { λ r. ⌜ Begun (slices (now (stack .entry)) (now (kinds .entry)) (now (values .entry))) (slices (now (stack .exit)) (now (kinds .exit)) (now (values .exit))) r ⌝ }
 {
     let cells = stack.len();
@@ -88,8 +140,8 @@ pub fn begin(stack: &mut [i64], kinds: &mut [u8], values: &mut [i64]) -> State
     }
 }
 
-// From the start until a stop.
-fn run_valid(
+// From the start until a stop. Where a run has no visits to be counted, it is lent no cells for them.
+pub fn run_counting(
     n: usize,
     rows: &[u32],
     exits: &[u32],
@@ -98,12 +150,26 @@ fn run_valid(
     stack: &mut [i64],
     kinds: &mut [u8],
     values: &mut [i64],
+    visits: &mut [u64],
 ) -> Ended
     requires { ⌜ Good n (now rows) (now exits) ⌝ }
+    requires { ⌜ CanCount n (now visits) (terms .limit) ⌝ }
     ensures { λ r. ⌜ Started n (now (rows .entry)) (now (exits .entry)) (given terms (now (input .entry))) (slices (now (stack .entry)) (now (kinds .entry)) (now (values .entry))) (slices (now (stack .exit)) (now (kinds .exit)) (now (values .exit))) r ⌝ }
+    ensures { λ _. ⌜ GainsAll (now (rows .entry)) (now (exits .entry)) (given terms (now (input .entry))) (slices (now (stack .entry)) (now (kinds .entry)) (now (values .entry))) (now (visits .entry)) (now (visits .exit)) ⌝ }
 {
     let from = begin(stack, kinds, values);
-    resume(n, rows, exits, terms, input, stack, kinds, values, from)
+    resume_counting(
+        n,
+        rows,
+        exits,
+        terms,
+        input,
+        stack,
+        kinds,
+        values,
+        visits,
+        from,
+    )
 }
 
 // The run of any table, with the edition by its number: refusal 15, refusal 10, or where it stopped.
@@ -135,5 +201,17 @@ pub fn run(
         limit,
         abstract_mode,
     };
-    Ran::Finished(run_valid(n, rows, exits, terms, input, stack, kinds, values))
+    let mut uncounted = [0u64; 0];
+    let ended = run_counting(
+        n,
+        rows,
+        exits,
+        terms,
+        input,
+        stack,
+        kinds,
+        values,
+        &mut uncounted,
+    );
+    Ran::Finished(ended)
 }

@@ -1,5 +1,4 @@
 -- Laws that belong to no one function, and that the layers above cite.
-pub mod Tallying
 pub mod Starting
 pub mod ListingLaws
 pub mod Answering

@@ -1,6 +1,7 @@
 -- `interpreter::running::run` meets its contract. What the slices hold at the end is what the definition says of every cell. Assumes nothing.
-use mathlib.Core.Path.{_≡_, sym, subst, _∙_}
+use mathlib.Core.Path.{_≡_, refl, sym, subst, _∙_}
 use mathlib.Core.Bool.{true, false}
+use native.Mathlib.Omega.{arith}
 use borrow.Author.Tests.{not-true, not-false}
 use borrow.Author.Needs.{needs}
 use denote.Ref.{now}
@@ -28,11 +29,11 @@ begin c = c .before .before .before .before .before
 abbrev known : tie.After-valid → tie.Else1
 known c = c .before .before
 
-abbrev passed : tie.After-run-valid-arg3 → tie.Else2
-passed c = c .before .before .before
+abbrev passed : tie.After-uncounted → tie.Else2
+passed c = c .before .before .before .before
 
-abbrev ended : tie.After-values → tie.After-run-valid
-ended c = c .before .before .before .before
+abbrev ended : tie.After-uncounted2 → tie.After-run-counting
+ended c = c .before .before .before .before .before
 
 abbrev start : tie.After-valid → tie.Start
 start c = begin (known c .before)
@@ -82,10 +83,14 @@ returns-2 c =
       tt,
     )
 
-run-valid-requires : tie.Need-run-valid-requires
-run-valid-requires c κs =
+slice-aggregate-run-counting : tie.Need-slice-aggregate-run-counting
+slice-aggregate-run-counting c = refl
+
+-- there are no cells to count in
+run-counting-requires : tie.Need-run-counting-requires
+run-counting-requires c κs =
     let a = start (passed c .before) .args in
-    good-of (editionOf (a .edition)) (a .n) (now (a .rows)) (now (a .exits)) (right (passed c))
+    (good-of (editionOf (a .edition)) (a .n) (now (a .rows)) (now (a .exits)) (right (passed c)), λ r h k. absurd (omega arith))
 
 same-length : tie.Need-same-length
 same-length c = search needs
@@ -98,7 +103,7 @@ same-length-3 c = search needs
 
 returns-3 : tie.Need-returns-3
 returns-3 c =
-    let r = ended c .run-valid in
+    let r = ended c .run-counting in
     let p = passed (ended c .before) in
     let s = start (p .before) in
     let n = s .args .n in
@@ -109,7 +114,7 @@ returns-3 c =
     let ran : Started n rows exits (givenOf (what s)) (held s) l′ (r .result) =
     subst
     (λ (e : Edition). Started n rows exits (given (record { edition = e; limit = s .args .limit; «abstract_mode» = s .args .abstract-mode }) (now (s .args .input))) (held s) l′ (r .result))
-    (p .before .before .edition-of .ensures) (r .ensures) in
+    (p .before .before .edition-of .ensures) (r .ensures .0) in
     let e = settled n (endOf rows exits (givenOf (what s)) (held s)) l′ (held s) (r .result) long ran in (
       run-finishes n rows exits (what s) (held s) (answer-right n rows exits (what s) (held s) (named (known (p .before))) (right p)) (e .0) (e .1),
       (
@@ -128,7 +133,8 @@ run-spec =
     edition-of-requires
     valid-requires
     returns-2
-    run-valid-requires
+    slice-aggregate-run-counting
+    run-counting-requires
     same-length
     same-length-2
     same-length-3

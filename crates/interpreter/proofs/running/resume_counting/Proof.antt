@@ -1,20 +1,21 @@
--- `visits::counting::resume_counting` meets its contract. The loop's invariant: each cell has grown by how often the exits passed lead
+-- `interpreter::running::resume_counting` meets its contract. The loop's invariant: each cell has grown by how often the exits passed lead
 -- to its region. Assumes nothing.
-use mathlib.Core.Path.{refl, ap, _∙_}
-use Prim.Native.Nat.{_-_, _<_}
+use mathlib.Core.Path.{_≡_, refl, sym, ap, subst, _∙_}
+use mathlib.Core.List.{List}
+use Prim.Native.Nat.{ℕ, _+_, _-_}
 use native.Mathlib.Omega.{arith}
 use borrow.Author.Needs.{needs}
 use denote.Ref.{now}
-use lib.ListN.{length}
 use Rattle.machine.specs.Machine.{Given, given}
 use Rattle.machine.specs.Held.{Slices, slices}
 use Rattle.machine.proofs.Only.{AsLong}
-use Rattle.interpreter.specs.Resume.{machineOf}
-use Rattle.interpreter.specs.Moving.{After}
+use Rattle.interpreter.specs.declared.stepping.Moved.the-variants.{To}
+use Rattle.interpreter.specs.Resume.{machineOf, Placed}
+use Rattle.interpreter.specs.Moving.{After, Stepped}
 use Rattle.interpreter.proofs.RunLaws.{ends-halted, ends-limit}
-use Rattle.visits.proofs.Tallying.{Tallies, tallies-start, tallies-room, tallies-next, tallies-end}
-use Rattle.visits.proofs.counting.resume_counting.Statement.{statement}
-use Rattle.visits.proofs.counting.resume_counting.Tie as tie
+use Rattle.interpreter.proofs.Tallying.{Tallies, tallies-start, tallies-room, tallies-next, tallies-end}
+use Rattle.interpreter.proofs.running.resume_counting.Statement.{statement}
+use Rattle.interpreter.proofs.running.resume_counting.Tie as tie
 
 abbrev Inv-loop : tie.InvT-loop
 Inv-loop n rows exits terms input stack₀ kinds₀ values₀ visits₀ at₀ stack kinds values visits at =
@@ -36,6 +37,10 @@ turn c = test c .before .before .before
 abbrev told : tie.After-known-told Inv-loop μ-loop → tie.After-step Inv-loop μ-loop
 told c = c .before .before .before .before .before .before .before
 
+-- from where a visit is counted back to there
+abbrev known : tie.After-slice-known4 Inv-loop μ-loop → tie.After-known-told Inv-loop μ-loop
+known c = c .before .before .before .before
+
 abbrev told2 : tie.After-known-told2 Inv-loop μ-loop → tie.After-step Inv-loop μ-loop
 told2 c = c .before .before .before .before .before .before .before
 
@@ -45,23 +50,27 @@ what s = given (s .args .terms) (now (s .args .input))
 abbrev held : tie.Start Inv-loop μ-loop → Slices
 held s = slices (now (s .args .stack)) (now (s .args .kinds)) (now (s .args .values))
 
--- the step leaves the slices as long as they are
-long : (c : tie.After-step Inv-loop μ-loop)
-    → AsLong (slices (c .step .last .1 .1 .1 .1 .1 .0) (c .step .last .1 .1 .1 .1 .1 .1 .0) (c .step .last .1 .1 .1 .1 .1 .1 .1 .0))
-    (slices (turn c .loop .stack) (turn c .loop .kinds) (turn c .loop .values))
+-- what the slices hold before a step, and after it
+abbrev standing : tie.After-step Inv-loop μ-loop → Slices
+standing c = let l = turn c .loop in slices (l .stack) (l .kinds) (l .values)
+
+abbrev left : tie.After-step Inv-loop μ-loop → Slices
+left c = slices (c .step .last .1 .1 .1 .1 .1 .0) (c .step .last .1 .1 .1 .1 .1 .1 .0) (c .step .last .1 .1 .1 .1 .1 .1 .1 .0)
+
+-- the step leaves them as long as they are
+long : (c : tie.After-step Inv-loop μ-loop) → AsLong (left c) (standing c)
 long c = record { stack = c .step .kept .1 .1 .1 .1 .1 .0; kinds = c .step .kept .1 .1 .1 .1 .1 .1 .0; values = c .step .kept .1 .1 .1 .1 .1 .1 .1 .0 }
 
--- the region reached is one of the table, and has a cell
-reached : (c : tie.After-known-told Inv-loop μ-loop) → c .before .next .given .0 .0 .region < begin (turn (told c)) .args .n
-unfolding After
-reached c =
-    let x = c .before .before .before .before .before .before .before .step in
-    (rw (c .before .next .given .1) at (x .ensures)) .leaves .0 .inside
+-- it goes on to a place of the table
+gone : (c : tie.After-known-told Inv-loop μ-loop)
+    → let s = begin (turn (told c)) in
+    Stepped (s .args .n) (now (s .args .rows)) (now (s .args .exits)) (what s) (standing (told c)) (turn (told c) .loop .at) (left (told c)) (To (c .before .next .given .0 .0))
+gone c = rw (c .before .next .given .1) at (c .before .before .before .before .before .before .before .step .ensures)
 
-counts : (c : tie.After-known-told Inv-loop μ-loop) → c .before .next .given .0 .0 .region < length (turn (told c) .loop .visits)
-counts c =
-    let l = turn (told c) in
-    omega (arith, reached c, begin l .pre .1 .1 .1 .0, l .loop .inv .long)
+reached : (c : tie.After-known-told Inv-loop μ-loop) → let s = begin (turn (told c)) in
+    Placed (s .args .n) (left (told c)) (c .before .next .given .0 .0) × (c .before .next .given .0 .0 .steps ≡ turn (told c) .loop .at .steps + 1)
+unfolding After
+reached c = gone c .leaves
 
 loop-holds : tie.Need-loop-holds Inv-loop μ-loop
 loop-holds c =
@@ -78,44 +87,28 @@ step-requires c κs =
 enum-known-next : tie.Need-enum-known-next Inv-loop μ-loop
 enum-known-next c = search needs
 
-cast-reached : tie.Need-cast-reached Inv-loop μ-loop
-cast-reached c = search needs
-
-mul-visits : tie.Need-mul-visits Inv-loop μ-loop
-mul-visits c = search needs
-
-slice-read-visits : tie.Need-slice-read-visits Inv-loop μ-loop
-slice-read-visits c = counts (c .before .before)
-
-add-visits : tie.Need-add-visits Inv-loop μ-loop
-add-visits c =
-    let t = told (c .before .before) in
-    let l = turn t in
+count-visit-requires : tie.Need-count-visit-requires Inv-loop μ-loop
+count-visit-requires c κs =
+    let k = c .before in
+    let l = turn (told k) in
     let s = begin l in
-    omega (
-      arith,
-      tallies-room (s .args .n) (now (s .args .rows)) (now (s .args .exits)) (what s) (held s) (s .args .from) (now (s .args .visits)) (l .loop .inv)
-          (s .pre .1 .1 .1 .1) (test t .if1 .taken) (c .before .before .before .next .given .0 .0 .region) (reached (c .before .before)),
-    )
-
-slice-write-visits : tie.Need-slice-write-visits Inv-loop μ-loop
-slice-write-visits c = counts (c .before .before)
+    λ h.
+    tallies-room (s .args .n) (now (s .args .rows)) (now (s .args .exits)) (what s) (held s) (s .args .from) (now (s .args .visits)) (l .loop .inv) (s .pre .1 .1 .1)
+    (test (told k) .if1 .taken) (k .before .next .given .0 .0 .region) (reached k .0 .inside) h
 
 loop-less : tie.Need-loop-less Inv-loop μ-loop
-unfolding After
-loop-less c =
-    let k = c .before .before in
-    let x = k .before .before .before .before .before .before .before .step in
-    omega (arith, test (told k) .if1 .taken, (rw (k .before .next .given .1) at (x .ensures)) .leaves .1)
+loop-less c = omega (arith, test (told (known c)) .if1 .taken, reached (known c) .1)
 
 loop-again : tie.Need-loop-again Inv-loop μ-loop
 loop-again c =
-    let k = c .before .before in
+    let k = known c in
     let l = turn (told k) in
     let s = begin l in
-    let x = k .before .before .before .before .before .before .before .step in
-    tallies-next (s .args .n) (now (s .args .rows)) (now (s .args .exits)) (what s) (held s) (s .args .from) (now (s .args .visits)) (l .loop .inv)
-    (test (told k) .if1 .taken) (counts k) (rw (k .before .next .given .1) at (x .ensures)) (long (told k))
+    subst
+    (λ (v : List ℕ). Tallies (s .args .n) (now (s .args .rows)) (now (s .args .exits)) (what s) (held s) (s .args .from) (now (s .args .visits)) (left (told k)) (k .before .next .given .0 .0) v)
+    (sym (c .before .before .count-visit .ensures))
+    (tallies-next (s .args .n) (now (s .args .rows)) (now (s .args .exits)) (what s) (held s) (s .args .from) (now (s .args .visits)) (l .loop .inv)
+    (test (told k) .if1 .taken) (gone k) (long (told k)))
 
 enum-known-stop : tie.Need-enum-known-stop Inv-loop μ-loop
 enum-known-stop c = search needs
@@ -174,11 +167,7 @@ resume-counting-spec =
     loop-holds
     step-requires
     enum-known-next
-    cast-reached
-    mul-visits
-    slice-read-visits
-    add-visits
-    slice-write-visits
+    count-visit-requires
     loop-less
     loop-again
     enum-known-stop

@@ -1,0 +1,43 @@
+-- Inner: cells that are lent beside a run, one a region, and grow by the regions that it enters. Assumes nothing.
+use mathlib.Core.Path.{_≡_}
+use mathlib.Core.Bool.{cond}
+use mathlib.Core.List.{List, map}
+use Prim.Native.Nat.{ℕ, _+_, _-_, _^_, _<_}
+use lib.Dec.{ltb}
+use lib.ListN.{length, getD, set}
+use Rattle.base.specs.Counting.{count}
+use Rattle.table.specs.ExitNumber.{targetOf}
+use Rattle.machine.specs.Machine.{Given}
+use Rattle.machine.specs.Place.{Machine, start, End}
+use Rattle.machine.specs.Held.{Slices}
+use Rattle.interpreter.specs.declared.State.{State}
+use Rattle.interpreter.specs.Run.{Job, runOf, ran}
+use Rattle.interpreter.specs.History.{History}
+use Rattle.interpreter.specs.Outcome.{jobOf}
+use Rattle.interpreter.specs.Resume.{machineOf}
+
+-- one more for a region, where it has a cell
+abbrev pub visited : ℕ → List ℕ → List ℕ
+visited r visits = cond (ltb r (length visits)) (set visits r (getD visits r 0 + 1)) visits
+
+-- k steps more can be counted in 64 bits, whichever of n regions they enter
+abbrev pub CanCount : ℕ → List ℕ → ℕ → Type 0
+CanCount n visits k = (r : ℕ) → r < n → r < length visits → getD visits r 0 + k < 2 ^ 64
+
+-- the cell of each region that has one has grown by how often a history enters it after its beginning
+pub record Gains (j : Job) (k : ℕ) (m : Machine) (e : End) (visits visits′ : List ℕ) : Type 0 where
+  pub history : History j k m e
+  pub cells : (r : ℕ) → r < length visits → getD visits′ r 0 ≡ getD visits r 0 + count r (map targetOf (history .exits))
+
+-- from a place to the limit
+abbrev pub GainsFrom : List ℕ → List ℕ → Given → Slices → State → List ℕ → List ℕ → Type 0
+GainsFrom rows exits g l from visits visits′ =
+    let j = jobOf rows exits g l in
+    let k = g .terms .limit - from .steps in
+    Gains j k (machineOf l from) (runOf j k (machineOf l from)) visits visits′
+
+-- and from the start
+abbrev pub GainsAll : List ℕ → List ℕ → Given → Slices → List ℕ → List ℕ → Type 0
+GainsAll rows exits g l visits visits′ =
+    let j = jobOf rows exits g l in
+    Gains j (g .terms .limit) start (ran j) visits visits′
