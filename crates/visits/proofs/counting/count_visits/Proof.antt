@@ -45,7 +45,7 @@ same-length-4 : tie.Need-same-length-4
 same-length-4 c =
     let r = ended c in
     let f = cleared (r .before) .fill-u64 in
-    r .run-counting .kept .1 .1 .1 .1 .1 .1 .1 .1 .0 ∙ length-set (f .last .0) 0 1 ∙ f .kept .0
+    r .run-counting .kept .1 .1 .1 .1 .1 .1 .1 .1 .0 ∙ length-set (f .last .0) 0 _ ∙ f .kept .0
 
 returns : tie.Need-returns
 returns c =
