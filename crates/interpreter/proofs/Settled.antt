@@ -19,7 +19,8 @@ use Rattle.machine.proofs.Only.{AsLong}
 use Rattle.machine.proofs.Emitting.{outs-length}
 use Rattle.interpreter.specs.Run.{runOf}
 use Rattle.interpreter.specs.Outcome.{cellsOf, kindsOf, valuesOf, slicesOf, placeOf, endedOf, jobOf, endOf}
-use Rattle.interpreter.specs.Resume.{machineOf, Begun, Reaches, Placed}
+use Rattle.interpreter.specs.Resume.{machineOf, Reaches, Placed}
+use Rattle.interpreter.specs.Moving.{Begun}
 use Rattle.interpreter.specs.declared.State.{State}
 use Rattle.interpreter.specs.declared.Ended.{Ended}
 use Rattle.interpreter.proofs.Clearing.{replicated}

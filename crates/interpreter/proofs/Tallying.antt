@@ -21,8 +21,8 @@ use Rattle.interpreter.specs.declared.stepping.Moved.the-variants.{To}
 use Rattle.interpreter.specs.Run.{Job, goes, exitFrom, stepOf, runOf, ran}
 use Rattle.interpreter.specs.History.{Passes, stays}
 use Rattle.interpreter.specs.Outcome.{jobOf}
-use Rattle.interpreter.specs.Resume.{machineOf, Placed, Begun, Reaches}
-use Rattle.interpreter.specs.Moving.{nextOf, After, Steps}
+use Rattle.interpreter.specs.Resume.{machineOf, Placed, Reaches}
+use Rattle.interpreter.specs.Moving.{Begun, nextOf, After, Steps}
 use Rattle.interpreter.specs.Gains.{visited, CanCount, Gains, GainsFrom, GainsAll}
 use Rattle.interpreter.proofs.Histories.{step-kept, run-history, history-only, history-more}
 use Rattle.interpreter.proofs.RunLaws.{same-job, Along, along-start, along-next}

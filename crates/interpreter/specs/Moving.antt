@@ -1,15 +1,21 @@
--- Inner: what the parts of a step promise, `go_through` and `step`. Assumes nothing.
+-- Inner: what the parts of a run promise: `begin`, and of a step `go_through` and `step`. Assumes nothing.
 use mathlib.Core.Path.{_≡_}
 use mathlib.Core.List.{List}
 use Prim.Native.Nat.{ℕ, _+_}
 use Rattle.machine.specs.Machine.{Given}
+use Rattle.machine.specs.Place.{start}
 use Rattle.machine.specs.Held.{Slices}
 use Rattle.interpreter.specs.declared.State.{State}
 use Rattle.interpreter.specs.declared.stepping.Moved.{Moved}
 use Rattle.interpreter.specs.declared.stepping.Moved.the-variants.{To, Halted}
 use Rattle.interpreter.specs.Run.{Went, goes, halts, through, stepOf}
-use Rattle.interpreter.specs.Outcome.{jobOf}
+use Rattle.interpreter.specs.Outcome.{slicesOf, placeOf, jobOf}
 use Rattle.interpreter.specs.Resume.{machineOf, Placed}
+
+-- the place where a run begins, and cleared slices (rules 8.1, 8.6)
+pub record Begun (l l′ : Slices) (from : State) : Type 0 where
+  pub at : from ≡ placeOf start
+  pub leaves : l′ ≡ slicesOf l (start .store)
 
 -- what a step came to, by what the slices hold after it
 unfoldable pub nextOf : Slices → Moved → Went

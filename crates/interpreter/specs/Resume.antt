@@ -4,7 +4,7 @@ use mathlib.Core.List.{List}
 use Prim.Native.Nat.{ℕ, _-_, _<_, _≤_}
 use Rattle.machine.specs.Counts.{total}
 use Rattle.machine.specs.Machine.{Given, Asks, givenOf, JudgedIn}
-use Rattle.machine.specs.Place.{Machine, start, End}
+use Rattle.machine.specs.Place.{Machine, End}
 use Rattle.machine.specs.Held.{Slices, storeOf, Stands}
 use Rattle.interpreter.specs.declared.State.{State}
 use Rattle.interpreter.specs.declared.Ended.{Ended}
@@ -12,7 +12,7 @@ use Rattle.interpreter.specs.declared.Ran.{Ran}
 use Rattle.interpreter.specs.declared.Ran.the-variants.{Refused, Finished}
 use Rattle.interpreter.specs.Table.{Good}
 use Rattle.interpreter.specs.Run.{runOf}
-use Rattle.interpreter.specs.Outcome.{slicesOf, placeOf, jobOf, endOf}
+use Rattle.interpreter.specs.Outcome.{jobOf, endOf}
 
 abbrev pub machineOf : Slices → State → Machine
 machineOf l at = record { region = at .region; steps = at .steps; store = storeOf l (at .core) }
@@ -22,11 +22,6 @@ pub record Placed (n : ℕ) (l : Slices) (at : State) : Type 0 where
   pub stands : Stands l (at .core)
   pub inside : at .region < n
   pub few : total (at .core .reading .skips) ≤ at .steps
-
--- the place where a run begins, and cleared slices (rules 8.1, 8.6)
-pub record Begun (l l′ : Slices) (from : State) : Type 0 where
-  pub at : from ≡ placeOf start
-  pub leaves : l′ ≡ slicesOf l (start .store)
 
 -- the place and the slices in which a run ended are those of e, and it may be resumed from there
 pub record Reaches (n : ℕ) (e : End) (l : Slices) (r : Ended) : Type 0 where

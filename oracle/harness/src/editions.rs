@@ -63,13 +63,14 @@ impl Question {
 }
 
 /// What a run leaves.
-#[derive(Clone, PartialEq, Eq)]
 pub struct Left {
     pub numbers: [u64; 12],
     /// bottom first
     pub stack: Vec<i64>,
     /// kind and value
     pub outputs: Vec<(u8, i64)>,
+    /// the regions that were entered, in their order, from where it started on
+    pub entered: Vec<usize>,
 }
 
 impl Left {
@@ -82,11 +83,12 @@ impl Left {
             numbers: ran.numbers(built.region(&ran.answer.label)),
             stack: ran.answer.stack.iter().rev().copied().collect(),
             outputs: ran.answer.outputs.iter().map(kind_and_value).collect(),
+            entered: ran.entered.iter().map(|block| built.region(block.get_label())).collect(),
         }
     }
 
     pub fn by_page(end: &End) -> Left {
-        let End { stack, outputs, .. } = end;
-        Left { numbers: end.numbers(), stack: stack.clone(), outputs: outputs.clone() }
+        let End { stack, outputs, entered, .. } = end.clone();
+        Left { numbers: end.numbers(), stack, outputs, entered }
     }
 }

@@ -74,6 +74,31 @@ extern "C" {
         answer: *mut u64,
         answer_length: usize,
     ) -> u32;
+    #[cfg(feature = "visits")]
+    fn piet_visits(
+        n: usize,
+        rows: *const u32,
+        rows_length: usize,
+        exits: *const u32,
+        exits_length: usize,
+        edition: u32,
+        limit: u64,
+        abstract_mode: bool,
+        input: *const u8,
+        input_length: usize,
+        stack: *mut i64,
+        stack_length: usize,
+        kinds: *mut u8,
+        kinds_length: usize,
+        values: *mut i64,
+        values_length: usize,
+        visits: *mut u64,
+        visits_length: usize,
+        unvisited: *mut u32,
+        unvisited_length: usize,
+        answer: *mut u64,
+        answer_length: usize,
+    ) -> u32;
     #[cfg(feature = "picture")]
     fn piet_run_picture(
         pixels: *const u8,
@@ -255,6 +280,56 @@ pub fn run(
             space.kinds.len(),
             space.values.as_mut_ptr(),
             space.values.len(),
+            answer.as_mut_ptr(),
+            answer.len(),
+        )
+    }
+}
+
+/// The numbers that a run with its visits counted answers: those of the run, and the count of nodes never entered.
+#[cfg(feature = "visits")]
+pub const VISITS_ANSWER: usize = RUN_ANSWER + 1;
+
+/// The slices that a run with its visits counted is lent, but for its answer.
+#[cfg(feature = "visits")]
+pub struct Counting {
+    pub space: Space,
+    pub visits: Vec<u64>,
+    pub unvisited: Vec<u32>,
+}
+
+#[cfg(feature = "visits")]
+pub fn visits(
+    table: &Table,
+    edition: u32,
+    terms: &crate::machine::Terms,
+    lent: &mut Counting,
+    answer: &mut [u64],
+) -> u32 {
+    let Counting { space, visits, unvisited } = lent;
+    // SAFETY: each pointer comes with the length of its slice
+    unsafe {
+        piet_visits(
+            table.n,
+            table.rows.as_ptr(),
+            table.rows.len(),
+            table.exits.as_ptr(),
+            table.exits.len(),
+            edition,
+            terms.limit,
+            terms.is_abstract,
+            terms.input.as_ptr(),
+            terms.input.len(),
+            space.stack.as_mut_ptr(),
+            space.stack.len(),
+            space.kinds.as_mut_ptr(),
+            space.kinds.len(),
+            space.values.as_mut_ptr(),
+            space.values.len(),
+            visits.as_mut_ptr(),
+            visits.len(),
+            unvisited.as_mut_ptr(),
+            unvisited.len(),
             answer.as_mut_ptr(),
             answer.len(),
         )

@@ -8,7 +8,6 @@ use piet_core::flow::DIRECTIONS;
 use piet_core::instruction::{Instruction, StdOutWrapper};
 use piet_core::settings::{InterpreterSettings, Verbosity};
 use piet_core::state::{ExecutionState, ExecutionStatus};
-use std::cell::Cell;
 use std::fmt::{Display, Formatter};
 
 pub struct Terms<'a> {
@@ -134,14 +133,19 @@ pub struct Judged {
     pub answer: Answer,
     /// by the steps taken
     pub skips: Skips,
+    /// the blocks that were entered, in their order: where the run starts, and where each step taken leads
+    pub entered: Vec<Node>,
     pub panic: Option<String>,
 }
 
 impl Judged {
     /// What the Rust answers where the walk led, which it has to have reached by the same steps.
-    fn of(answer: Answer, walked: &Walked, panic: Option<String>) -> Self {
-        assert_eq!((answer.steps, answer.used), (walked.steps, walked.place));
-        Judged { answer, skips: walked.skips, panic }
+    fn of(answer: Answer, walk: Walk, panic: Option<String>) -> Self {
+        let Walk { read: Read { place, skips }, entered, .. } = walk;
+        let last = entered.last().expect("the entry at least").get_label();
+        assert_eq!((answer.used, &answer.label), (place, last));
+        assert_eq!(answer.steps + 1, entered.len() as u64);
+        Judged { answer, skips, entered, panic }
     }
 
     /// The numbers of the result (rule 8.5), with that of the region it names.
@@ -161,40 +165,57 @@ impl Judged {
 /// The Rust has no room to run out of. So a walk finds the first step that passes the room or
 /// panics, and `run` itself is asked for the states on both sides of it. Needs an entry.
 pub fn run_in_room(cfg: &CFG, terms: &Terms, room: &Room) -> Judged {
-    let (walked, stop) = walk(cfg, terms, room);
-    if stop == Ok(0) {
+    let walk = walk(cfg, terms, room);
+    if walk.stop == Ok(0) {
         let answer = run(cfg, terms).expect("the walk met no panic");
-        return Judged::of(answer, &walked, None);
+        return Judged::of(answer, walk, None);
     }
     let upto = |limit| run(cfg, &Terms { limit, ..*terms });
-    let mut answer = upto(walked.steps).expect("the walk met no panic so far");
+    let mut answer = upto(walk.steps()).expect("the walk met no panic so far");
     assert_eq!(answer.status, 2);
-    confirm(&stop, &answer, upto(walked.steps + 1), room);
-    let (status, panic) = match stop {
-        Ok(status) => (status, None),
+    confirm(&walk.stop, &answer, upto(walk.steps() + 1), room);
+    let (status, panic) = match &walk.stop {
+        Ok(status) => (*status, None),
         Err(text) if text.starts_with(BAD_LINE) => (BAD_INPUT, None),
-        Err(text) => (answer.status, Some(text)),
+        Err(text) => (answer.status, Some(text.clone())),
     };
     answer.status = status;
-    Judged::of(answer, &walked, panic)
+    Judged::of(answer, walk, panic)
 }
 
-/// Steps taken, the place in the input after them, and the lines that they skipped.
+/// The steps before the first one that passes the room or panics.
+struct Walk {
+    entered: Vec<Node>,
+    read: Read,
+    /// which it is; 0 where the run ends without one
+    stop: Result<u32, String>,
+}
+
+/// The place in the input, and the lines that were skipped.
 #[derive(Clone, Copy, Default)]
-struct Walked {
-    steps: u64,
+struct Read {
     place: usize,
     skips: Skips,
 }
 
-/// The steps before the first one that passes the room or panics, and which it is; 0 where the run
-/// ends without one.
-fn walk(cfg: &CFG, terms: &Terms, room: &Room) -> (Walked, Result<u32, String>) {
-    let walked = Cell::new(Walked::default());
+impl Walk {
+    fn steps(&self) -> u64 {
+        steps_to(&self.entered)
+    }
+}
+
+/// The first block is entered without a step.
+fn steps_to(entered: &[Node]) -> u64 {
+    entered.len() as u64 - 1
+}
+
+fn walk(cfg: &CFG, terms: &Terms, room: &Room) -> Walk {
+    let (mut entered, mut read) = (vec![], Read::default());
     let (stop, _) = with_input(terms.input, || {
         let mut machine = interpreter(cfg, terms);
         let mut block = machine.get_entry();
-        while walked.get().steps != terms.limit
+        entered.push(block.clone());
+        while steps_to(&entered) != terms.limit
             && machine.is_complete() != ExecutionStatus::NeedsInput
         {
             machine.open_state().cb_count = block.get_region_size();
@@ -202,28 +223,29 @@ fn walk(cfg: &CFG, terms: &Terms, room: &Room) -> (Walked, Result<u32, String>) 
                 break;
             };
             block = next;
-            let after = step(&mut machine, instruction, terms, walked.get());
+            let after = step(&mut machine, instruction, terms, read);
             if machine.open_state().stack.len() > room.stack {
                 return STACK_FULL;
             }
             if machine.open_state().stdout.len() > room.outputs {
                 return OUTPUT_FULL;
             }
-            walked.set(after);
+            entered.push(block.clone());
+            read = after;
         }
         0
     });
-    (walked.get(), stop)
+    Walk { entered, read, stop }
 }
 
-/// One step more, with what its instruction reads and skips; it is taken only where the room holds what it leaves.
+/// What a step more reads and skips; it is taken only where the room holds what it leaves.
 fn step(
     machine: &mut Interpreter,
     instruction: Option<Instruction>,
     terms: &Terms,
-    before: Walked,
-) -> Walked {
-    let mut after = Walked { steps: before.steps + 1, ..before };
+    before: Read,
+) -> Read {
+    let mut after = before;
     let Some(instruction) = instruction else {
         return after;
     };

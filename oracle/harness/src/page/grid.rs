@@ -1,6 +1,6 @@
 //! A picture as codels: its blocks, and the ways out of one.
 use super::op;
-use std::collections::HashSet;
+use std::collections::{HashMap, HashSet};
 
 const BLACK: u8 = 18;
 const WHITE: u8 = 19;
@@ -168,17 +168,22 @@ impl Grid {
         block
     }
 
-    /// The number of a codel's block: how many blocks begin before it.
-    pub fn number(&self, of: Codel) -> usize {
-        let (first, mut seen) = (self.block(of)[0], HashSet::new());
-        let mut begins = |at: Codel| {
-            let new = !seen.contains(&at);
-            if new {
-                seen.extend(self.block(at));
+    /// The number of each of these codels' blocks: how many blocks begin before it.
+    pub fn numbers(&self, of: &[Codel]) -> Vec<usize> {
+        let (mut numbers, mut begun) = (HashMap::new(), 0);
+        let mut open: HashSet<Codel> = of.iter().copied().collect();
+        for at in self.codels() {
+            if open.is_empty() {
+                break;
             }
-            new
-        };
-        self.codels().take_while(|&c| c < first).filter(|&c| begins(c)).count()
+            if !numbers.contains_key(&at) {
+                let block = self.block(at);
+                block.iter().for_each(|codel| _ = open.remove(codel));
+                numbers.extend(block.into_iter().map(|codel| (codel, begun)));
+                begun += 1;
+            }
+        }
+        of.iter().map(|codel| numbers[codel]).collect()
     }
 
     /// One attempt to leave a block: from its furthest codel toward dp, of several from the one furthest to cc's side.

@@ -23,6 +23,8 @@ pub struct End {
     pub status: u32,
     pub steps: u64,
     pub region: usize,
+    /// the regions that were entered, in their order: where the run starts, and where each step taken leads
+    pub entered: Vec<usize>,
     pub pointers: Pointers,
     /// bottom first
     pub stack: Vec<i64>,
@@ -77,7 +79,7 @@ pub fn run_table(n: usize, rows: &[u32], exits: &[u32], terms: &Terms) -> Option
             }
         }
     };
-    Some(run(0, terms, next, |region| *region))
+    Some(run(0, terms, next, <[usize]>::to_vec))
 }
 
 fn is_table(n: usize, rows: &[u32], exits: &[u32]) -> bool {
@@ -114,16 +116,16 @@ pub fn run_grid(grid: &Grid, terms: &Terms) -> Option<End> {
         }
         Next::Nowhere
     };
-    Some(run(first, terms, next, |at| grid.number(*at)))
+    Some(run(first, terms, next, |entered| grid.numbers(entered)))
 }
 
-fn run<P>(
+fn run<P: Copy>(
     mut place: P,
     terms: &Terms,
     next: impl Fn(&P, Pointers) -> Next<P>,
-    region: impl Fn(&P) -> usize,
+    regions: impl Fn(&[P]) -> Vec<usize>,
 ) -> End {
-    let (mut machine, mut steps) = (Machine::default(), 0);
+    let (mut machine, mut steps, mut entered) = (Machine::default(), 0, vec![place]);
     let (mut lost, mut parting) = (false, None);
     let status = loop {
         if steps == terms.limit {
@@ -147,11 +149,13 @@ fn run<P>(
             Err(status) => break status,
             Ok(after) => (place, machine) = (to, after),
         }
+        entered.push(place);
         let what = if long { Some(Parting::LongSlide) } else { machine.parting };
         parting = parting.or(what.map(|what| (steps, what)));
         steps += 1;
     };
     let Machine { pointers, stack, outputs, used, skipped, .. } = machine;
-    let region = region(&place);
-    End { status, steps, region, pointers, stack, outputs, used, skipped, lost, parting }
+    let entered = regions(&entered);
+    let region = entered[steps as usize];
+    End { status, steps, region, entered, pointers, stack, outputs, used, skipped, lost, parting }
 }

@@ -14,6 +14,8 @@ mod running;
 #[cfg(feature = "slide")]
 mod sliding;
 mod timing;
+#[cfg(feature = "visits")]
+mod visiting;
 
 /// The parts that this program was built for, and what ours is measured beside, where a part has no heading of its own; the
 /// arguments name those that are measured.
@@ -30,6 +32,8 @@ const PARTS: &[(&str, &str, fn())] = &[
     ("p6", "copy", files::measure),
     #[cfg(feature = "slide")]
     ("slide", "", sliding::measure),
+    #[cfg(feature = "visits")]
+    ("visits", "", visiting::measure),
 ];
 
 fn main() {

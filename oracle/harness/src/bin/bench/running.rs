@@ -6,7 +6,7 @@ use harness::library::{self, Space, Table, RUN_ANSWER};
 use harness::machine::{self, Terms};
 use harness::picture::{Built, Picture};
 
-const STEPS: u64 = 1_000_000;
+pub const STEPS: u64 = 1_000_000;
 
 pub fn measure() {
     for (name, picture) in programs() {
@@ -19,14 +19,18 @@ fn run(name: &str, picture: &Picture) {
     let built = harness::picture::build(picture);
     let rust = fastest(|| machine::run(&built.cfg, &terms).expect("no panic").steps);
     let table = table(&built);
-    let mut space = Space { stack: vec![0; 64], kinds: vec![0; 64], values: vec![0; 64] };
-    let mut answer = [0; RUN_ANSWER];
+    let (mut space, mut answer) = (space(), [0; RUN_ANSWER]);
     let ours = fastest(|| {
         assert_eq!(library::run(&table, RUST, &terms, &mut space, &mut answer), 0);
     });
     assert_eq!(answer[..2], [2, STEPS], "the run goes on to its limit");
     let rates = [rust, ours].map(|seconds| STEPS as f64 / 1e6 / seconds);
     line(&format!("run, {name}"), "million steps/s", rates, rust / ours);
+}
+
+/// As little as these runs need.
+pub fn space() -> Space {
+    Space { stack: vec![0; 64], kinds: vec![0; 64], values: vec![0; 64] }
 }
 
 pub fn table(built: &Built) -> Table {

@@ -15,6 +15,21 @@ pub fn fastest<T>(mut f: impl FnMut() -> T) -> f64 {
     best
 }
 
+/// Seconds of the fastest call of each, made by turns, so that both have the same of what else the machine does.
+#[cfg(feature = "visits")]
+pub fn fastest_by_turns(mut one: impl FnMut(), mut other: impl FnMut()) -> [f64; 2] {
+    let (begun, mut best) = (Instant::now(), [f64::INFINITY; 2]);
+    while begun.elapsed() < 4 * ENOUGH {
+        let calls: [&mut dyn FnMut(); 2] = [&mut one, &mut other];
+        for (call, best) in calls.into_iter().zip(&mut best) {
+            let start = Instant::now();
+            call();
+            *best = best.min(start.elapsed().as_secs_f64());
+        }
+    }
+    best
+}
+
 /// What stands above the lines: what ours is measured beside.
 pub fn heading(beside: &str) {
     println!("{:44}{beside:>14}{:>14}{:>10}", "", "ours", "ratio");

@@ -15,6 +15,8 @@ mod modelled;
 mod page;
 #[cfg(feature = "picture")]
 mod picturing;
+#[cfg(any(feature = "page", feature = "visits"))]
+mod questions;
 #[cfg(feature = "roll")]
 mod rolling;
 #[cfg(feature = "run")]
@@ -23,6 +25,8 @@ mod running;
 mod slide;
 #[cfg(any(feature = "forever", feature = "run"))]
 mod tables;
+#[cfg(feature = "visits")]
+mod visiting;
 
 use cases::Checked;
 use std::process::ExitCode;
@@ -39,6 +43,8 @@ const PARTS: &[(&str, fn() -> Checked)] = &[
     ("forever", forever::compare),
     #[cfg(feature = "run")]
     ("run", running::compare),
+    #[cfg(feature = "visits")]
+    ("visits", visiting::compare),
     #[cfg(feature = "roll")]
     ("roll", rolling::compare),
     #[cfg(feature = "picture")]

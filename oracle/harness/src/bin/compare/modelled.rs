@@ -84,9 +84,10 @@ fn without_long(model: &Built, short: &Table) -> Table {
     Table { map: model.map.clone(), rows: rows.collect(), exits: exits.collect() }
 }
 
-/// The numbers, the stack, and a kind and a value for each output.
+/// The numbers, the stack, a kind and a value for each output, and the regions entered.
 fn flat(left: &Left) -> Vec<i64> {
     let numbers = left.numbers.iter().map(|&n| n as i64);
     let outputs = left.outputs.iter().flat_map(|&(kind, value)| [kind.into(), value]);
-    numbers.chain(left.stack.iter().copied()).chain(outputs).collect()
+    let entered = left.entered.iter().map(|&region| region as i64);
+    numbers.chain(left.stack.iter().copied()).chain(outputs).chain(entered).collect()
 }

@@ -18,11 +18,11 @@ const LONGEST: u32 = 8;
 
 #[derive(Clone)]
 pub struct Running {
-    question: Question,
-    editions: Editions,
-    spoil: Spoil,
-    longer: Longer,
-    answer: usize,
+    pub question: Question,
+    pub editions: Editions,
+    pub spoil: Spoil,
+    pub longer: Longer,
+    pub answer: usize,
 }
 
 /// By how much kinds and values are longer than the room for outputs; one of them is not.
@@ -129,13 +129,13 @@ impl Running {
         space(&self.question.room, self.longer)
     }
 
-    fn built(&self) -> Built {
+    pub fn built(&self) -> Built {
         let built = editions::table(&self.question.picture, self.editions.build);
         built.expect("an entry that is not white")
     }
 
     /// What the run leaves, or the number of its refusal, and the limit up to which it is asked.
-    fn judged(&self, built: &Built, table: &Table) -> (Result<Left, u32>, u64) {
+    pub fn judged(&self, built: &Built, table: &Table) -> (Result<Left, u32>, u64) {
         let limit = self.question.limit;
         match self.editions.run {
             // An exit of a lost slide is above the first edition's largest, whatever is spoilt besides.
@@ -161,7 +161,7 @@ impl Running {
         (Ok(Left::by_rust(built, &ran)), limit)
     }
 
-    fn by_page(&self, table: &Table) -> Option<End> {
+    pub fn by_page(&self, table: &Table) -> Option<End> {
         page::run_table(table.n, &table.rows, &table.exits, &self.question.page_terms())
     }
 
@@ -173,7 +173,7 @@ impl Running {
         }
     }
 
-    fn expected(&self, judged: &Result<Left, u32>) -> Outcome {
+    pub fn expected(&self, judged: &Result<Left, u32>) -> Outcome {
         let (mut space, mut answer) = (self.space(), pattern(self.answer));
         if answer.len() < RUN_ANSWER {
             return outcome(4, &answer, &space);
@@ -191,7 +191,7 @@ impl Running {
         }
     }
 
-    fn found(&self, table: &Table, limit: u64) -> Outcome {
+    pub fn found(&self, table: &Table, limit: u64) -> Outcome {
         let (mut space, mut answer) = (self.space(), pattern(self.answer));
         let Question { is_abstract, ref input, .. } = self.question;
         let terms = Terms { limit, is_abstract, input };
@@ -210,11 +210,8 @@ impl Case for Running {
 
     fn kinds(&self, expected: &Outcome) -> Vec<String> {
         let mut kinds = expected.kinds_of_run();
-        let Editions { build, run } = self.editions;
-        if is_edition(run) && (build, run) != (RUST, RUST) {
-            kinds.push(format!("built by {build} and run by {run}"));
-        }
-        if expected.list("number") == [0] && run == PAGE {
+        kinds.extend(kind_of_editions(self.editions));
+        if expected.list("number") == [0] && self.editions.run == PAGE {
             kinds.extend(self.end().iter().flat_map(kinds_of_end));
         }
         kinds
@@ -233,6 +230,12 @@ impl Case for Running {
         let (picture, terms) = (shown_picture(&question.picture), shown_terms(question));
         format!("{picture} editions {build} {run} {terms} longer {longer:?} spoil {spoil:?} answer {answer}")
     }
+}
+
+/// Who builds and who runs, where it is not the Rust that does both.
+pub fn kind_of_editions(Editions { build, run }: Editions) -> Option<String> {
+    let told = is_edition(run) && (build, run) != (RUST, RUST);
+    told.then(|| format!("built by {build} and run by {run}"))
 }
 
 /// What a run of the model has met: the slide that ended it, and the first thing that the first edition does otherwise.

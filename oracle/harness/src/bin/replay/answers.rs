@@ -1,7 +1,9 @@
 //! The lines of tables and runs: words with one space between them.
 use crate::records::{Asked, Job};
 use harness::editions::{self, Editions, Left, PAGE, RUST};
+use harness::picture::Built;
 use harness::question::Question;
+use harness::visits::Visits;
 use std::fmt::Display;
 
 pub fn table(asked: &Asked) -> String {
@@ -24,7 +26,7 @@ pub fn run(job: &Job) -> Result<String, String> {
     let table = |edition: u32| editions::table(&question.picture, edition);
     let built = table(*build).ok_or("a first pixel is white")?;
     if *run == PAGE {
-        return Ok(run_line(&Left::by_page(&built.run_by_page(question))));
+        return Ok(run_lines(&built, &Left::by_page(&built.run_by_page(question))));
     }
     if built.has_lost() {
         return Ok(refused(10));
@@ -33,7 +35,7 @@ pub fn run(job: &Job) -> Result<String, String> {
         return run_by_rust(question);
     }
     match built.run_by_both(question) {
-        (end, limit) if limit == question.limit => Ok(run_line(&Left::by_page(&end))),
+        (end, limit) if limit == question.limit => Ok(run_lines(&built, &Left::by_page(&end))),
         _ => Err("nobody runs on in the first edition, after what it does otherwise".into()),
     }
 }
@@ -42,7 +44,7 @@ pub fn run(job: &Job) -> Result<String, String> {
 fn run_by_rust(question: &Question) -> Result<String, String> {
     let (built, judged) = question.asked().ok_or("a first pixel is white")?;
     match (&judged.panic, by_residue(question)) {
-        (None, _) => Ok(run_line(&Left::by_rust(&built, &judged))),
+        (None, _) => Ok(run_lines(&built, &Left::by_rust(&built, &judged))),
         (Some(_), Some(question)) => run_by_rust(&question),
         (Some(text), None) => Err(format!("the Rust panics: {text}")),
     }
@@ -57,6 +59,17 @@ fn by_residue(question: &Question) -> Option<Question> {
     let residue = i64::MIN.checked_rem_euclid(depth).filter(|_| count == i64::MIN.to_string())?;
     let input = format!("{before}\n{residue:0width$}\n", width = count.len()).into_bytes();
     Some(Question { input, ..question.clone() })
+}
+
+/// What the run leaves, and how often it entered each region of its table.
+fn run_lines(built: &Built, left: &Left) -> String {
+    let marks: Vec<u32> = built.rows.iter().map(|row| row[4]).collect();
+    run_line(left) + &visits_line(&Visits::of(&left.entered, &marks))
+}
+
+fn visits_line(visits: &Visits) -> String {
+    let nodes: Vec<u64> = visits.unvisited.iter().map(|&node| node.into()).collect();
+    "visits ".to_string() + &sections([&[nodes.len() as u64], &visits.counts, &nodes])
 }
 
 fn run_line(left: &Left) -> String {
