@@ -1,7 +1,9 @@
 -- Laws of counting in lists.
+--     Below                                   all numbers of a list are below n
 --     count-append, count-most, count-past    one list after another; no more than there are; none of a number that all are below
---     upTo-length, upTo-at                    the numbers below n, one by one
+--     one-most                                what is counted for one element is at most 1
 --     counts-at, counts-length, counts-sum    the counts of the numbers below n: each, how many, and all together
+--     counts-none, counts-more                all together, of no numbers and of one number more
 --     those-one, those-not, those-none        one number more is tested, which passes or does not; and none
 --     those-most, those-count, those-rise     those of the numbers below n: no more than n, each once, and rising
 --     those-same                              tests that agree below n find the same

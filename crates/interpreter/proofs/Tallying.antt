@@ -6,19 +6,19 @@ use Prim.Native.Nat.{ℕ, _+_, _-_, _^_, _<_}
 use native.Mathlib.Omega.{arith}
 use borrow.Author.Tests.{eqb-true, eqb-false, ne-eqb, ltb-true, ltb-false}
 use lib.Dec.{eqb, ltb}
-use lib.ListN.{length, getD, set, length-append, length-set, length-map}
+use lib.ListN.{length, getD, length-append, length-set, length-map}
 use lib.Seq.{getD-set-same, getD-set-other}
 use Rattle.base.specs.Counting.{count}
 use Rattle.base.proofs.CountingLaws.{count-append, count-most}
 use Rattle.table.specs.ExitNumber.{targetOf}
 use Rattle.machine.specs.Machine.{Given, JudgedIn}
-use Rattle.machine.specs.Place.{Machine, start}
+use Rattle.machine.specs.Place.{Machine}
 use Rattle.machine.specs.Held.{Slices}
 use Rattle.machine.proofs.Only.{AsLong}
 use Rattle.interpreter.specs.declared.State.{State}
 use Rattle.interpreter.specs.declared.Ended.{Ended}
 use Rattle.interpreter.specs.declared.stepping.Moved.the-variants.{To}
-use Rattle.interpreter.specs.Run.{Job, goes, exitFrom, stepOf, runOf, ran}
+use Rattle.interpreter.specs.Run.{Job, goes, exitFrom, stepOf, runOf}
 use Rattle.interpreter.specs.History.{Passes, stays}
 use Rattle.interpreter.specs.Outcome.{jobOf}
 use Rattle.interpreter.specs.Resume.{machineOf, Placed, Reaches}
@@ -30,7 +30,7 @@ use Rattle.interpreter.proofs.Settled.{begun-machine}
 
 -- one visit more
 module _ (v : List ℕ) (i : ℕ) where
-  pub visited-length : length (visited i v) ≡ length v
+  visited-length : length (visited i v) ≡ length v
   visited-length = go (ltb i (length v)) refl
     where
       go : (t : Bool) → ltb i (length v) ≡ t → length (visited i v) ≡ length v

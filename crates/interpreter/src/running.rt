@@ -141,7 +141,7 @@ fn begin(stack: &mut [i64], kinds: &mut [u8], values: &mut [i64]) -> State
     }
 }
 
-// From the start until a stop. Where a run has no visits to be counted, it is lent no cells for them.
+// From the start until a stop. The start itself is no visit here; a run whose visits nobody counts is lent no cells.
 pub fn run_counting(
     n: usize,
     rows: &[u32],

@@ -1,5 +1,5 @@
 -- Two calls from C, one after the other, from what the two promise; nothing of how either is met is used. Demand 3: a run of
--- what was built from a picture is not refused, and it follows the picture; rule 17.2: what is counted of it are the moves. Rule 15.6: a P6 file that was
+-- what was built from a picture is not refused, and it follows the picture; rule 17.2: what is counted of it are the regions that its moves enter. Rule 15.6: a P6 file that was
 -- written is read back the same. Assumes nothing.
 use mathlib.Core.Path.{_≡_, sym, ap, ap₂, subst, _∙_}
 use mathlib.Core.List.{List, [], _∷_, _++_}

@@ -67,7 +67,8 @@ none = (
   refl,
 )
 
--- the order of the refusals: the largest limit is 16 whatever the slices, and after 10; one step less is taken
+-- the order of the refusals: with the largest limit a wrong table is 10, and a right one 16 though nothing is lent; with one step less
+-- it is 4
 pub order : (answer 1 rows exits (under uncountable) used [] ≡ refusedIn visitCells 10)
     × (answer 2 rows exits (under uncountable) (lends [] [] [] [] []) [] ≡ refusedIn visitCells 16)
     × (answer 2 rows exits (under (uncountable - 1)) (lends [] [] [] (7 ∷ 8 ∷ []) (4 ∷ [])) [] ≡ refusedIn visitCells 4)

@@ -1,5 +1,5 @@
 -- Laws of the list of the nodes that were never entered.
---     listed-node, listed-rises                        what it says: each such node below n stands in it once, and they rise
+--     listed-rises, listed-node                        what it says: they rise, and each such node below n stands in it once
 --     list-same, list-length                           only the counts below n matter; with its zeros it has n cells
 --     none-listed, one-listed, not-listed, all-listed  it is written node after node, then the zeros
 -- Assumes nothing.
@@ -20,15 +20,15 @@ use Rattle.visits.specs.Visits.{neverEntered, unvisitedOf, listOf}
 use Rattle.visits.specs.Counted.{Lists}
 
 module _ (n : ℕ) (rows : List ℕ) (f : ℕ → ℕ) where
-  pub list-length : length (listOf n rows f) ≡ n
-  list-length =
-      simp (length-append, length-replicate) (omega (arith, those-most (neverEntered rows f) n))
+  pub listed-rises : (i k : ℕ) → i < k → k < length (unvisitedOf n rows f) → getD (unvisitedOf n rows f) i 0 < getD (unvisitedOf n rows f) k 0
+  listed-rises = those-rise (neverEntered rows f) n
 
   pub listed-node : (r : ℕ) → count r (unvisitedOf n rows f) ≡ cond (ltb r n && neverEntered rows f r) 1 0
   listed-node = those-count (neverEntered rows f) n
 
-  pub listed-rises : (i k : ℕ) → i < k → k < length (unvisitedOf n rows f) → getD (unvisitedOf n rows f) i 0 < getD (unvisitedOf n rows f) k 0
-  listed-rises = those-rise (neverEntered rows f) n
+  pub list-length : length (listOf n rows f) ≡ n
+  list-length =
+      simp (length-append, length-replicate) (omega (arith, those-most (neverEntered rows f) n))
 
   pub list-same : (g : ℕ → ℕ) → ((r : ℕ) → r < n → f r ≡ g r) → unvisitedOf n rows f ≡ unvisitedOf n rows g
   list-same g h =

@@ -1,7 +1,7 @@
 -- Two outcomes that the contract of `run_visits` allows for one input are equal, answer and every lent list:
---     visits-only       (inner functions: `count_visits` and `list_unvisited` have equations)
+--     visits-only       (of the inner functions `list_unvisited` has equations, and `count_visits` a history that is one)
 -- and what they say:
---     visits-run        dropping the two slices gives the contract of `run`
+--     visits-run        where it is not refused with 16 or 4, dropping the two slices gives the contract of `run`
 --     visits-refusal    15, then 10, then 16, then 4, each exactly where it fits, and then nothing changes
 --     visits-finished   an answer whose number is 0 is finished
 --     visits-sum        the first n cells together are the steps and one more

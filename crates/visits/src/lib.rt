@@ -22,10 +22,10 @@ pub enum Visited {
     Finished { ended: Ended, unvisited: usize },
 }
 
-// The limit under which a count need not fit, and the numbers of the refusals that a run has not.
+// The limit under which a count need not fit, and the numbers of the two refusals that `run` has not.
 const UNCOUNTABLE: u64 = 18446744073709551615;
 
-const UNCOUNTABLE_LIMIT: u32 = 16;
+const WRONG_LIMIT: u32 = 16;
 
 const TOO_SHORT: u32 = 4;
 
@@ -57,7 +57,7 @@ pub fn run_visits(
         return Visited::Refused(WRONG_TABLE);
     }
     if limit == UNCOUNTABLE {
-        return Visited::Refused(UNCOUNTABLE_LIMIT);
+        return Visited::Refused(WRONG_LIMIT);
     }
     if visits.len() < n {
         return Visited::Refused(TOO_SHORT);
