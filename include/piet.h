@@ -327,13 +327,15 @@ uint32_t piet_run(size_t n,
  * step once for the region that it reaches. A step that is not taken counts nothing, and neither does a lost slide. The
  * counts of the n regions together are the steps and one more.
  *
- *   n to values   as for piet_run, and written alike; but limit is at most 2^64 - 2, so that each count fits
+ *   n to values   these arguments are as for piet_run, and what is lent is written as by it; but limit is at most
+ *                 2^64 - 2, so that each count fits
  *   visits        room for n: how often each region was entered, whatever the cells held before
  *   unvisited     room for n: the nodes, rows with mark 1, that were never entered, by their region numbers in rising
  *                 order; then zeros up to n cells. Region 0 is never among them, since the start enters it
- *   answer        13 cells: the twelve of piet_run, then the count of nodes never entered
+ *   answer        13 cells: the twelve of piet_run, then the count of nodes never entered (PIET_RUN_UNVISITED)
  *
- * Cells of visits and unvisited past n stay as they were. A region whose row has no mark is counted and never listed.
+ * Cells of visits and unvisited past n stay as they were. A region whose row has no mark is counted and never listed. A
+ * node may be listed that no run comes to: nodes are found through white regions too.
  *
  * Returns the first refusal that holds in the order EDITION, TABLE, LIMIT, ROOM, or PIET_DONE.
  */

@@ -11,7 +11,7 @@
  * to the second dark yellow block. What is left was made 1 or 0: 1 turns dp down, and a slide over the white leads back to
  * light blue; with 0 the run goes on to the last block, which has no way out.
  *
- * From 3 every block is entered, those of the loop three times. From 0 the last block never is: 0 is written before it is
+ * From 3 every coloured block is entered, those of the loop three times. From 0 the last block never is: 0 is written before it is
  * tested, -1 is left, and the run ends at its limit. The counts show the loop, and the list shows what the run missed.
  *
  *     rt staticlib piet_c
@@ -50,7 +50,7 @@ struct run {
     uint8_t kinds[OUTPUTS];
 };
 
-/* A refusal is a number; nothing was written, so there is nothing to go on with. */
+/* A refusal is a number; nothing but the answer was written, so there is nothing to go on with. */
 static void expect_done(uint32_t number)
 {
     if (number != PIET_DONE) {
@@ -103,7 +103,7 @@ static void print_shades(const struct table *table, const struct run *run)
     }
 }
 
-/* The blocks that a run can stand in, the nodes; the last cell of a row is their mark. */
+/* The nodes, which the last cell of a row marks: the blocks that were found from the first one. */
 static void print_counts(const struct table *table, const struct run *run)
 {
     uint64_t sum = 0;

@@ -27,7 +27,7 @@ struct run {
     uint8_t kinds[OUTPUTS];
 };
 
-/* A refusal is a number; nothing was written, so there is nothing to go on with. */
+/* A refusal is a number; nothing but the answer was written, so there is nothing to go on with. */
 static void expect_done(uint32_t number)
 {
     if (number != PIET_DONE) {

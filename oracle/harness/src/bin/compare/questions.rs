@@ -1,4 +1,4 @@
-//! Questions by chance for the second edition.
+//! Questions by chance on what the editions do differently.
 use crate::running::{self, entered};
 use harness::paint::{row, row_over_white, Op};
 use harness::picture::Picture;
