@@ -1,4 +1,5 @@
--- Inner: cells that are lent beside a run, one a region, and grow by the regions that it enters. Assumes nothing.
+-- Inner: cells that are lent beside a run, for all regions or for the first of them, and grow by the regions that its steps reach. Assumes
+-- nothing.
 use mathlib.Core.Path.{_≡_}
 use mathlib.Core.Bool.{cond}
 use mathlib.Core.List.{List, map}

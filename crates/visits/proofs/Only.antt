@@ -105,17 +105,17 @@ module _ (n : ℕ) (rows exits : List ℕ) (a : Asks) (l : Lends) where
   }
 
   -- an answer whose number is 0 is finished
-  pub visits-finished : {r : Visited} {l′ : Lends} → Outcome n rows exits a l r l′ → 0 ≡ numberOf (numbered r) → (e : Ended) × (missing : ℕ) × (r ≡ Finished e missing)
+  pub visits-finished : {r : Visited} {l′ : Lends} → Outcome n rows exits a l r l′ → 0 ≡ numberOf (numbered r) → (e : Ended) × (unvisited : ℕ) × (r ≡ Finished e unvisited)
   unfolding numbered
   visits-finished {r} {l′} o h = let t = test-call n rows exits a l in go (t .0) (t .1)
     where
-      go : (k : ℕ) → Tested n rows exits a l k → (e : Ended) × (missing : ℕ) × (r ≡ Finished e missing)
+      go : (k : ℕ) → Tested n rows exits a l k → (e : Ended) × (unvisited : ℕ) × (r ≡ Finished e unvisited)
       go zero t = (endedOf (end n rows exits a l), missed n rows exits a l (regionsOf start (o .history .exits)), finished n rows exits a l o t .0)
       go (suc k) t =
           let z : 0 ≡ suc k = h ∙ ap (λ (x : Visited). numberOf (numbered x)) (refused n rows exits a l o t .0) in
           absurd (omega arith)
 
-  module _ {e : Ended} {missing : ℕ} {l′ : Lends} (o : Outcome n rows exits a l (Finished e missing) l′) where
+  module _ {e : Ended} {unvisited : ℕ} {l′ : Lends} (o : Outcome n rows exits a l (Finished e unvisited) l′) where
     -- the regions entered, in their order
     abbrev entered : List ℕ
     entered = regionsOf start (o .history .exits)
@@ -155,7 +155,7 @@ module _ (n : ℕ) (rows exits : List ℕ) (a : Asks) (l : Lends) where
     pub visits-sum : sum (take n (l′ .visits)) ≡ e .at .steps + 1
     unfolding lent
     visits-sum =
-        let steps : e .at .steps ≡ length (o .history .exits) = ap (λ (x : Ended). x .at .steps) (o .ends e missing refl) ∙ (omega (arith, o .history .counted)) in
+        let steps : e .at .steps ≡ length (o .history .exits) = ap (λ (x : Ended). x .at .steps) (o .ends e unvisited refl) ∙ (omega (arith, o .history .counted)) in
         let below = entered-below (jobOf rows exits (givenOf a) (l .run)) (good not-refused) (o .history .passes) (good not-refused .some) (record { dp = omega arith; cc = omega arith }) in
         ap (λ (x : List ℕ). sum (take n x)) held
         ∙ ap sum (take-at (counts n entered) (drop (length (counts n entered)) (l .visits)) n (counts-length n entered))
