@@ -1,4 +1,5 @@
--- A rule at each number below n, or at each entry of a table, from one test that antt computes. Assumes nothing.
+-- A rule at each number below n, or at each entry of a table of one or two indices, from one test that antt computes.
+-- Assumes nothing.
 use mathlib.Core.Path.{_≡_, refl, sym, subst}
 use mathlib.Core.Bool.{Bool, true, false}
 use Prim.Native.Nat.{ℕ, zero, suc, _<_}
@@ -33,3 +34,10 @@ all-at (suc n) f t k h = last (eqb k n) refl (all-at n f (right (f n) (all n f) 
     last : (b : Bool) → eqb k n ≡ b → (k < n → T (f k)) → T (f k)
     last true e below = subst (λ (m : ℕ). T (f m)) (sym (eqb-true k n e)) (left (f n) (all n f) t)
     last false e below = let ne = eqb-false k n e in below (omega arith)
+
+-- the same at each two numbers, the one below m and the other below n
+abbrev pub all-two : ℕ → ℕ → (ℕ → ℕ → Bool) → Bool
+all-two m n f = all m (λ i. all n (f i))
+
+pub all-two-at : (m n : ℕ) (f : ℕ → ℕ → Bool) → T (all-two m n f) → (i j : ℕ) → i < m → j < n → T (f i j)
+all-two-at m n f t i j h k = all-at n (f i) (all-at m (λ x. all n (f x)) t i h) j k

@@ -3,6 +3,7 @@
 ghost use mathlib.Core.Path.{_≡_};
 ghost use Prim.Native.Nat.{_+_, _*_, _/_, _%_, _<_, _≤_};
 ghost use lib.ListN.{length, getD};
+ghost use Rattle.colour.specs.Lookup.{Decodes};
 ghost use Rattle.flow.specs.Pointer.{ofNumber};
 ghost use Rattle.picture.specs.Picture.{pictureOf, rowsOf, colsOf, codels, Frames};
 ghost use Rattle.table.specs.ExitNumber.{exitNumber};
@@ -11,6 +12,9 @@ ghost use Rattle.exit.specs.Leaving.{LeavesBy};
 ghost use Rattle.cfg.specs.Nodes.{Found};
 ghost use Rattle.cfg.specs.Search.{lostExit, wayNumber, Room, Visit, Queued, InGrid, Grounds, Queue, Tries, Several, Taken, Ready, Searched};
 use base::edition::Edition;
+use colour::decode::Pairs;
+use colour::decode::decode_in;
+use colour::decode::pair_table;
 use exit::attempt::Way;
 use exit::attempt::attempt_from;
 use flow::PointerState;
@@ -119,6 +123,7 @@ fn way_number(
     s: Shape,
     edition: Edition,
     map: &[u32],
+    pairs: &Pairs,
     from: u8,
     state: u8,
     way: Way,
@@ -127,6 +132,7 @@ fn way_number(
     requires { ⌜ InGrid (pictureOf (now colours) s) way ⌝ }
     requires { ⌜ state < 8 ⌝ }
     requires { ⌜ Frames (now colours) s ⌝ }
+    requires { ⌜ Decodes (now pairs) ⌝ }
     ensures { λ r. ⌜ r ≡ wayNumber edition (pictureOf (now (colours .entry)) s) (now (map .entry)) from state way ⌝ }
 {
     let cols = s.cols;
@@ -135,7 +141,7 @@ fn way_number(
         Way::Astray { row, col } => lost_exit(edition),
         Way::Step { row, col } => {
             let to = colour_at(colours, s, row, col);
-            let instruction = colour::decode::decode(from, to);
+            let instruction = decode_in(pairs, from, to);
             exit_to(map, row * cols + col, state, instruction)
         }
         Way::Glide {
@@ -158,6 +164,7 @@ fn try_state(
     s: Shape,
     edition: Edition,
     map: &[u32],
+    pairs: &Pairs,
     r: usize,
     state: u8,
     rows: &mut [u32],
@@ -174,6 +181,7 @@ fn try_state(
     requires { ⌜ r < 65536 ⌝ }
     requires { ⌜ state < 8 ⌝ }
     requires { ⌜ Frames (now colours) s ⌝ }
+    requires { ⌜ Decodes (now pairs) ⌝ }
     ensures { λ t. ⌜ Tries edition (pictureOf (now (colours .entry)) s) (now (map .entry)) r state (now (rows .entry)) (now (exits .entry)) (now (work .entry)) tail (now (rows .exit)) (now (exits .exit)) (now (work .exit)) t ⌝ }
 {
     let cell = exit_cell(r, state as usize);
@@ -184,7 +192,7 @@ fn try_state(
     let from = colour_at(colours, s, row, col);
     let p = PointerState::of_number(state);
     let way = attempt_from(colours, s, edition, row, col, p);
-    exits[cell] = way_number(colours, s, edition, map, from, state, way);
+    exits[cell] = way_number(colours, s, edition, map, pairs, from, state, way);
     queue_way(colours, s, map, way, rows, work, tail)
 }
 
@@ -194,6 +202,7 @@ fn try_states(
     s: Shape,
     edition: Edition,
     map: &[u32],
+    pairs: &Pairs,
     r: usize,
     rows: &mut [u32],
     exits: &mut [u32],
@@ -203,12 +212,25 @@ fn try_states(
     requires { ⌜ Taken edition (pictureOf (now colours) s) (now map) (now exits) (now work) r ⌝ }
     requires { ⌜ Queue edition (pictureOf (now colours) s) (now map) (now rows) (now work) tail ⌝ }
     requires { ⌜ Frames (now colours) s ⌝ }
+    requires { ⌜ Decodes (now pairs) ⌝ }
     ensures { λ t. ⌜ Several edition (pictureOf (now (colours .entry)) s) (now (map .entry)) r 8 (now (rows .entry)) (now (exits .entry)) (now (work .entry)) tail (now (rows .exit)) (now (exits .exit)) (now (work .exit)) t ⌝ }
 {
     let mut end = tail;
     let mut state: u8 = 0;
     while state < 8 {
-        end = try_state(colours, s, edition, map, r, state, rows, exits, work, end);
+        end = try_state(
+            colours,
+            s,
+            edition,
+            map,
+            pairs,
+            r,
+            state,
+            rows,
+            exits,
+            work,
+            end,
+        );
         state += 1;
     }
     end
@@ -228,11 +250,12 @@ pub fn search(
     requires { ⌜ Frames (now colours) s ⌝ }
     ensures { λ _. ⌜ Searched edition (pictureOf (now (colours .entry)) s) (now (map .entry)) (now (rows .entry)) (now (exits .entry)) (now (rows .exit)) (now (exits .exit)) ⌝ }
 {
+    let pairs = pair_table();
     let mut tail = visit(0, rows, work, 0);
     let mut head = 0;
     while head < tail {
         let r = wide(work[head]);
-        tail = try_states(colours, s, edition, map, r, rows, exits, work, tail);
+        tail = try_states(colours, s, edition, map, &pairs, r, rows, exits, work, tail);
         head += 1;
     }
 }

@@ -1,30 +1,21 @@
--- The table of pairs is that of rule 1.4, column after column, and its commands are 0 to 17. Assumes nothing.
-use mathlib.Core.Path.{_≡_}
+-- A table that passes one test at each pair of colours is the rule's, and the commands are 0 to 17. Assumes nothing.
 use mathlib.Core.Bool.{Bool, true, false, cond, _&&_}
-use mathlib.Core.List.{List, [], _++_, map}
-use Prim.Native.Nat.{ℕ, _+_, _*_, _/_, _%_, _<_, _≤_}
+use mathlib.Core.List.{List, []}
+use Prim.Native.Nat.{ℕ, _<_, _≤_}
 use native.Mathlib.Omega.{arith}
-use lib.Dec.{eqb, eqb→eq, leb, leb→le, ltb, lit≤}
+use lib.Dec.{eqb, eqb→eq, leb, leb→le, ltb, lit≤, T}
 use lib.ListN.{getD}
 use Rattle.colour.specs.Decode.{commands, hueSteps, darkerSteps, decodeOf}
-use Rattle.base.proofs.Table.{all, all-at}
+use Rattle.colour.specs.Lookup.{Decodes}
+use Rattle.base.proofs.Table.{all-two, all-two-at}
 
-abbrev column : ℕ → List ℕ
-column d = map (λ (r : List ℕ). getD r d 0) commands
+abbrev right : List (List ℕ) → ℕ → ℕ → Bool
+right pairs from to = eqb (getD (getD pairs from []) to 0) (decodeOf from to)
 
--- the code's table, which antt computes to be the list of the source
-abbrev pub pairs : List ℕ
-pairs = column 0 ++ column 1 ++ column 2
-
-abbrev right : ℕ → ℕ → Bool
-right k x = eqb x (getD (getD commands (k % 6) []) (k / 6) 0)
-
-pub pair-at : (d h : ℕ) → d < 3 → h < 6 → getD pairs (6 * d + h) 0 ≡ getD (getD commands h []) d 0
-pair-at d h k l =
-    let m : (6 * d + h) % 6 ≡ h = omega arith in
-    let q : (6 * d + h) / 6 ≡ d = omega arith in
-    let t = eqb→eq (getD pairs (6 * d + h) 0) (getD (getD commands ((6 * d + h) % 6) []) ((6 * d + h) / 6) 0) (all-at 18 (λ k. right k (getD pairs k 0)) tt (6 * d + h) (omega arith)) in
-    rw (m, q) at t
+-- one test over the four hundred pairs
+pub all-right : (pairs : List (List ℕ)) → T (all-two 20 20 (right pairs)) → Decodes pairs
+all-right pairs t =
+    record { entry = λ from to h k. eqb→eq _ _ (all-two-at 20 20 (right pairs) t from to (omega arith) (omega arith)) }
 
 -- the commands are at most 17
 small : ℕ → ℕ → Bool
@@ -32,7 +23,7 @@ small h d = leb (getD (getD commands h []) d 0) 17
 
 small-at : (h d : ℕ) → h < 6 → d < 3 → getD (getD commands h []) d 0 ≤ 17
 unfolding small
-small-at h d k l = leb→le _ _ (all-at 3 (small h) (all-at 6 (λ x. all 3 (small x)) tt h k) d l)
+small-at h d k l = leb→le _ _ (all-two-at 6 3 small tt h d k l)
 
 pub decode-small : (from to : ℕ) → decodeOf from to ≤ 17
 unfolding decodeOf

@@ -3,17 +3,20 @@
 --     check                                          check-only
 --     in_numbers, placeless                          told-only
 --     label                                          label-only
---     found_at, colour_under, decode, no_setting,
---     refuses, substitute                            `equation-only` of base's proofs/Only.antt
+--     pair_table                                     pair-table-only
+--     found_at, colour_under, decode, decode_in,
+--     no_setting, refuses, substitute                `equation-only` of base's proofs/Only.antt
 -- Assumes nothing.
 use mathlib.Core.Path.{_≡_, _∙_, sym, ap, refl}
 use mathlib.Core.List.{List, [], _∷_}
-use Prim.Native.Nat.{ℕ, zero, suc}
+use Prim.Native.Nat.{ℕ, zero, suc, _≤_}
 use lib.ListN.{getD}
 use Rattle.base.specs.Lent.{lent}
 use Rattle.base.specs.Numbers.{Numbers, numbers, unlessRefused}
 use Rattle.colour.specs.Classify as classify
 use Rattle.colour.specs.Label as label
+use Rattle.colour.specs.Lookup.{Decodes}
+use Rattle.colour.specs.Palette.{white}
 use Rattle.colour.specs.declared.classify.Classified.{Classified}
 use Rattle.colour.specs.declared.classify.Classified.the-variants.{Done, Size, Setting, Bytes, Room, Pixel}
 use Rattle.colour.specs.declared.classify.Told.{Told}
@@ -75,3 +78,8 @@ label-only {colour} {x} {y} {before} {r} {r′} o o′ =
       sym (labelled r) ∙ ap labelledOf e ∙ labelled r′,
       o .leaves ∙ ap (λ (n : Numbers). unlessRefused n (lent (label.padded (label.labelOf colour x y)) before) before) e ∙ sym (o′ .leaves),
     )
+
+-- two tables that `pair_table` may give have the same bytes
+pub pair-table-only : {p p′ : List (List ℕ)} → Decodes p → Decodes p′ → (from to : ℕ) → from ≤ white → to ≤ white
+    → getD (getD p from []) to 0 ≡ getD (getD p′ from []) to 0
+pair-table-only d d′ from to h k = d .entry from to h k ∙ sym (d′ .entry from to h k)

@@ -1,9 +1,12 @@
--- Inner: the two tables in which the code looks a colour up. No public contract cites it. Assumes nothing.
+-- Inner: the tables in which the code looks up a colour and a change of colour. No public contract cites it. Assumes nothing.
+use mathlib.Core.Path.{_≡_}
 use mathlib.Core.Bool.{cond}
 use mathlib.Core.List.{List, [], _∷_, map}
-use Prim.Native.Nat.{ℕ, zero, suc, _+_, _*_, _%_}
+use Prim.Native.Nat.{ℕ, zero, suc, _+_, _*_, _%_, _≤_}
 use lib.Dec.{eqb}
-use Rattle.colour.specs.Palette.{Rgb, rgb, palette}
+use lib.ListN.{getD}
+use Rattle.colour.specs.Decode.{decodeOf}
+use Rattle.colour.specs.Palette.{Rgb, rgb, palette, white}
 
 -- three bytes as one number
 abbrev pub joinedOf : Rgb → ℕ
@@ -28,3 +31,7 @@ likelyFrom (suc count) n = firstWith n palette 0 ∷ likelyFrom count (suc n)
 
 abbrev pub likelyRows : List ℕ
 likelyRows = likelyFrom divisor 0
+
+-- a table of the changes of colour: its entry for each ordered pair of colours is the instruction of the rule
+pub record Decodes (pairs : List (List ℕ)) : Type 0 where
+  pub entry : (from to : ℕ) → from ≤ white → to ≤ white → getD (getD pairs from []) to 0 ≡ decodeOf from to

@@ -6,7 +6,7 @@ use Prim.Native.Nat.{ℕ, zero, suc, _+_, _/_, _%_, _<_}
 use native.Mathlib.Omega.{arith}
 use lib.IntN.{ℤ}
 use lib.Dec.{eqb, eqb→eq}
-use Rattle.base.proofs.Table.{all, all-at}
+use Rattle.base.proofs.Table.{all-two-at}
 use Rattle.flow.specs.declared.PointerState.{PointerState}
 use Rattle.flow.specs.Pointer.{
   Valid,
@@ -73,15 +73,15 @@ target-test s t = eqb (stateNumber (attemptOf (ofNumber s) (offsetOf (ofNumber s
 
 attempt-table : (s k : ℕ) → s < 8 → k < 8 → stateNumber (attempted (ofNumber s) k) ≡ stateNumber (attemptOf (ofNumber s) k)
 unfolding attempt-test attemptOf
-attempt-table s k hs hk = eqb→eq _ _ (all-at 8 (attempt-test s) (all-at 8 (λ x. all 8 (attempt-test x)) tt s hs) k hk)
+attempt-table s k hs hk = eqb→eq _ _ (all-two-at 8 8 attempt-test tt s k hs hk)
 
 offset-table : (s k : ℕ) → s < 8 → k < 8 → offsetOf (ofNumber s) (attemptOf (ofNumber s) k) ≡ k
 unfolding offset-test attemptOf
-offset-table s k hs hk = eqb→eq _ _ (all-at 8 (offset-test s) (all-at 8 (λ x. all 8 (offset-test x)) tt s hs) k hk)
+offset-table s k hs hk = eqb→eq _ _ (all-two-at 8 8 offset-test tt s k hs hk)
 
 target-table : (s t : ℕ) → s < 8 → t < 8 → stateNumber (attemptOf (ofNumber s) (offsetOf (ofNumber s) (ofNumber t))) ≡ t
 unfolding target-test attemptOf
-target-table s t hs ht = eqb→eq _ _ (all-at 8 (target-test s) (all-at 8 (λ x. all 8 (target-test x)) tt s hs) t ht)
+target-table s t hs ht = eqb→eq _ _ (all-two-at 8 8 target-test tt s t hs ht)
 
 -- what the code computes is the k-th attempt
 pub attempted-is : (p : PointerState) (k : ℕ) → Valid p → k < 8 → attempted p k ≡ attemptOf p k

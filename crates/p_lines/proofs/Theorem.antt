@@ -8,7 +8,7 @@ use borrow.Author.Tests.{eqb-true}
 use lib.Dec.{T, eqb}
 use lib.ListN.{length, getD}
 use lib.IntN.{ℤ, pos, negsuc}
-use Rattle.base.proofs.Table.{all, all-at}
+use Rattle.base.proofs.Table.{all-two-at}
 use Rattle.word.specs.Word.{residue, signed64, wrap, isZero, quotient, rustRemainder, remainder}
 use Rattle.colour.specs.Decode.{decodeOf}
 use Rattle.flow.specs.Pointer.{attemptOf}
@@ -60,4 +60,4 @@ told i j false e t q = absurd (rw (q, same-self) at t)
 
 pub each-once : (i j : ℕ) → i < 13 → j < 13 → question i ≡ question j → i ≡ j
 unfolding apart whole wholes words same
-each-once i j hi hj = told i j (eqb i j) refl (all-at 13 (apart i) (all-at 13 (λ x. all 13 (apart x)) tt i hi) j hj)
+each-once i j hi hj = told i j (eqb i j) refl (all-two-at 13 13 apart tt i j hi hj)

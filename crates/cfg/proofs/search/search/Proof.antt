@@ -10,20 +10,23 @@ use Rattle.cfg.proofs.search.search.Statement.{statement}
 use Rattle.cfg.proofs.search.search.Tie as tie
 
 abbrev Inv-loop : tie.InvT-loop
-Inv-loop colours s edition map rows₀ exits₀ work₀ tail₀ head₀ rows exits work tail head = Searching edition (pictureOf colours s) map rows₀ exits₀ work₀ head rows exits work tail
+Inv-loop colours s edition map rows₀ exits₀ work₀ pairs tail₀ head₀ rows exits work tail head = Searching edition (pictureOf colours s) map rows₀ exits₀ work₀ head rows exits work tail
 
 abbrev μ-loop : tie.MeasureT-loop
-μ-loop colours s edition map rows₀ exits₀ work₀ tail₀ head₀ rows exits work tail head = codels (pictureOf colours s) - head
+μ-loop colours s edition map rows₀ exits₀ work₀ pairs tail₀ head₀ rows exits work tail head = codels (pictureOf colours s) - head
+
+pair-table-requires : tie.Need-pair-table-requires Inv-loop μ-loop
+pair-table-requires c κs = tt
 
 visit-requires : tie.Need-visit-requires Inv-loop μ-loop
 visit-requires c κs =
-    let start = c .before .before .before .before .before .before .before in
+    let start = c .before .before .before .before .before .before .before .before in
     (queue-first {e = start .args .edition} (start .pre .0) .room, first-low (start .pre .0))
 
 loop-holds : tie.Need-loop-holds Inv-loop μ-loop
 loop-holds c =
     let at-visit = c .before .before .before .before in
-    let start = at-visit .before .before .before .before .before .before .before .before in
+    let start = at-visit .before .before .before .before .before .before .before .before .before in
     let the-pre = start .pre in
     let the-visit = at-visit .visit in
     search-start (the-pre .0) (the-visit .ensures)
@@ -41,21 +44,22 @@ wide-requires c κs = tt
 
 try-states-requires : tie.Need-try-states-requires Inv-loop μ-loop
 try-states-requires c κs =
-    let in-loop = c .before .before .before .before .before in
+    let in-loop = c .before .before .before .before .before .before in
     let at-loop = in-loop .before in
     let at-visit = at-loop .before .before .before .before .before in
-    let start = at-visit .before .before .before .before .before .before .before .before in
-    let the-wide = c .before .before .before .wide in
+    let start = at-visit .before .before .before .before .before .before .before .before .before in
+    let the-wide = c .before .before .before .before .wide in
     let the-pre = start .pre in
     let the-visit = at-visit .visit in
+    let the-pair-table = at-visit .before .before .before .pair-table in
     let the-loop = at-loop .loop in
     let the-loop-test = in-loop .loop-test in
-    (rw (the-wide .ensures) (search-taken (the-pre .0) (the-visit .ensures) (the-loop .inv) (the-loop-test .taken)), (the-loop .inv .queue, the-pre .1))
+    (rw (the-wide .ensures) (search-taken (the-pre .0) (the-visit .ensures) (the-loop .inv) (the-loop-test .taken)), (the-loop .inv .queue, (the-pre .1, the-pair-table .ensures)))
 
 add-head : tie.Need-add-head Inv-loop μ-loop
 add-head c =
     let at-try-states = c .before .before .before .before .before .before in
-    let in-loop = at-try-states .before .before .before .before .before .before in
+    let in-loop = at-try-states .before .before .before .before .before .before .before in
     let at-loop = in-loop .before in
     let the-loop-test = in-loop .loop-test in
     let the-loop = at-loop .loop in
@@ -64,10 +68,10 @@ add-head c =
 loop-less : tie.Need-loop-less Inv-loop μ-loop
 loop-less c =
     let at-try-states = c .before .before .before .before .before .before in
-    let in-loop = at-try-states .before .before .before .before .before .before in
+    let in-loop = at-try-states .before .before .before .before .before .before .before in
     let at-loop = in-loop .before in
     let at-visit = at-loop .before .before .before .before .before in
-    let start = at-visit .before .before .before .before .before .before .before .before in
+    let start = at-visit .before .before .before .before .before .before .before .before .before in
     let the-loop = at-loop .loop in
     let the-loop-test = in-loop .loop-test in
     let the-pre = start .pre in
@@ -78,11 +82,11 @@ loop-less c =
 loop-again : tie.Need-loop-again Inv-loop μ-loop
 loop-again c =
     let at-try-states = c .before .before .before .before .before .before in
-    let at-wide = at-try-states .before .before .before .before in
+    let at-wide = at-try-states .before .before .before .before .before in
     let in-loop = at-wide .before .before in
     let at-loop = in-loop .before in
     let at-visit = at-loop .before .before .before .before .before in
-    let start = at-visit .before .before .before .before .before .before .before .before in
+    let start = at-visit .before .before .before .before .before .before .before .before .before in
     let the-pre = start .pre in
     let the-visit = at-visit .visit in
     let the-loop = at-loop .loop in
@@ -107,7 +111,7 @@ same-length-3 c =
 returns : tie.Need-returns Inv-loop μ-loop
 returns c =
     let at-visit = c .before .before .before .before .before .before in
-    let start = at-visit .before .before .before .before .before .before .before .before in
+    let start = at-visit .before .before .before .before .before .before .before .before .before in
     let the-pre = start .pre in
     let the-visit = at-visit .visit in
     search-end (the-pre .0) (the-visit .ensures) (c .before .loop .inv) (c .loop-test .left)
@@ -118,6 +122,7 @@ search-spec =
     (tie.spec
     Inv-loop
     μ-loop
+    pair-table-requires
     visit-requires
     loop-holds
     mul-wide

@@ -23,19 +23,19 @@ wide-requires c κs = search needs
 div-row : tie.Need-div-row
 div-row c =
     let the-pre = c .before .before .before .before .before .before .before .before .pre in
-    omega (arith, the-pre .1 .1 .1 .1 .1 .1 .1 .1 .cols-are, cols-pos (the-pre .0 .sound))
+    omega (arith, the-pre .1 .1 .1 .1 .1 .1 .1 .1 .0 .cols-are, cols-pos (the-pre .0 .sound))
 
 rem-col : tie.Need-rem-col
 rem-col c =
     let the-pre = c .before .before .before .before .before .before .before .before .pre in
-    omega (arith, the-pre .1 .1 .1 .1 .1 .1 .1 .1 .cols-are, cols-pos (the-pre .0 .sound))
+    omega (arith, the-pre .1 .1 .1 .1 .1 .1 .1 .1 .0 .cols-are, cols-pos (the-pre .0 .sound))
 
 colour-at-requires : tie.Need-colour-at-requires
 colour-at-requires c κs =
     let the-exit-cell = c .before .before .exit-cell in
     let the-pre = c .before .before .before .before .before .before .before .before .pre in
     let the-args = c .before .before .before .before .before .before .before .before .args in
-    (the-pre .1 .1 .1 .1 .1 .1 .1 .1, leave-inside (the-args .state) (the-pre .0) (the-pre .1 .1 .1 .0) (rw (the-exit-cell .ensures) at (c .wide .ensures)) (the-pre .1 .1 .1 .1 .1 .1 .1 .1 .cols-are))
+    (the-pre .1 .1 .1 .1 .1 .1 .1 .1 .0, leave-inside (the-args .state) (the-pre .0) (the-pre .1 .1 .1 .0) (rw (the-exit-cell .ensures) at (c .wide .ensures)) (the-pre .1 .1 .1 .1 .1 .1 .1 .1 .0 .cols-are))
 
 of-number-requires : tie.Need-of-number-requires
 of-number-requires c κs = search needs
@@ -48,7 +48,7 @@ attempt-from-requires c κs =
     let the-pre = start .pre in
     let the-args = start .args in
     let the-wide = c .before .before .wide in
-    (the-pre .1 .1 .1 .1 .1 .1 .1 .1, leave-inside (the-args .state) (the-pre .0) (the-pre .1 .1 .1 .0) (rw (the-exit-cell .ensures) at (the-wide .ensures)) (the-pre .1 .1 .1 .1 .1 .1 .1 .1 .cols-are), rw (c .of-number .ensures) (valid-number (the-args .state) (the-pre .1 .1 .1 .1 .1 .1 .1 .0)))
+    (the-pre .1 .1 .1 .1 .1 .1 .1 .1 .0, leave-inside (the-args .state) (the-pre .0) (the-pre .1 .1 .1 .0) (rw (the-exit-cell .ensures) at (the-wide .ensures)) (the-pre .1 .1 .1 .1 .1 .1 .1 .1 .0 .cols-are), rw (c .of-number .ensures) (valid-number (the-args .state) (the-pre .1 .1 .1 .1 .1 .1 .1 .0)))
 
 way-number-requires : tie.Need-way-number-requires
 way-number-requires c κs =
@@ -58,7 +58,7 @@ way-number-requires c κs =
     let the-pre = start .pre in
     let the-args = start .args in
     let the-wide = c .before .before .before .wide in
-    (the-pre .0, (placed (leave-inside (the-args .state) (the-pre .0) (the-pre .1 .1 .1 .0) (rw (the-exit-cell .ensures) at (the-wide .ensures)) (the-pre .1 .1 .1 .1 .1 .1 .1 .1 .cols-are)) (rw (c .before .of-number .ensures) (valid-number (the-args .state) (the-pre .1 .1 .1 .1 .1 .1 .1 .0))) (c .attempt-from .ensures), (the-pre .1 .1 .1 .1 .1 .1 .1 .0, the-pre .1 .1 .1 .1 .1 .1 .1 .1)))
+    (the-pre .0, (placed (leave-inside (the-args .state) (the-pre .0) (the-pre .1 .1 .1 .0) (rw (the-exit-cell .ensures) at (the-wide .ensures)) (the-pre .1 .1 .1 .1 .1 .1 .1 .1 .0 .cols-are)) (rw (c .before .of-number .ensures) (valid-number (the-args .state) (the-pre .1 .1 .1 .1 .1 .1 .1 .0))) (c .attempt-from .ensures), (the-pre .1 .1 .1 .1 .1 .1 .1 .0, the-pre .1 .1 .1 .1 .1 .1 .1 .1)))
 
 mul-exits : tie.Need-mul-exits
 mul-exits c =
@@ -86,7 +86,7 @@ queue-way-requires c κs =
     let the-wide = at-wide .wide in
     let the-of-number = at-of-number .of-number in
     let the-attempt-from = c .before .before .before .attempt-from in
-    (the-pre .0, (placed (leave-inside (the-args .state) (the-pre .0) (the-pre .1 .1 .1 .0) (rw (the-exit-cell .ensures) at (the-wide .ensures)) (the-pre .1 .1 .1 .1 .1 .1 .1 .1 .cols-are)) (rw (the-of-number .ensures) (valid-number (the-args .state) (the-pre .1 .1 .1 .1 .1 .1 .1 .0))) (the-attempt-from .ensures), (the-pre .1 .1 .0 .room, (the-pre .1 .1 .1 .1 .0, the-pre .1 .1 .1 .1 .1 .1 .1 .1))))
+    (the-pre .0, (placed (leave-inside (the-args .state) (the-pre .0) (the-pre .1 .1 .1 .0) (rw (the-exit-cell .ensures) at (the-wide .ensures)) (the-pre .1 .1 .1 .1 .1 .1 .1 .1 .0 .cols-are)) (rw (the-of-number .ensures) (valid-number (the-args .state) (the-pre .1 .1 .1 .1 .1 .1 .1 .0))) (the-attempt-from .ensures), (the-pre .1 .1 .0 .room, (the-pre .1 .1 .1 .1 .0, the-pre .1 .1 .1 .1 .1 .1 .1 .1 .0))))
 
 same-length : tie.Need-same-length
 same-length c = search needs
@@ -116,7 +116,7 @@ returns c =
     let the-colour-at = at-colour-at .colour-at in
     let the-way-number = at-way-number .way-number in
     let the-queue-way = at-queue-way .queue-way in
-    rw (the-exit-cell .ensures) (tries-read (the-args .state) (the-pre .0) (the-pre .1 .1 .1 .0) (rw (the-exit-cell .ensures) at (the-wide .ensures)) (the-pre .1 .1 .1 .1 .1 .1 .1 .1 .cols-are) (the-pre .1 .0) (the-pre .1 .1 .0) (the-pre .1 .1 .1 .1 .0) (the-pre .1 .1 .1 .1 .1 .1 .1 .0) (the-of-number .ensures) (the-attempt-from .ensures) (placed (leave-inside (the-args .state) (the-pre .0) (the-pre .1 .1 .1 .0) (rw (the-exit-cell .ensures) at (the-wide .ensures)) (the-pre .1 .1 .1 .1 .1 .1 .1 .1 .cols-are)) (rw (the-of-number .ensures) (valid-number (the-args .state) (the-pre .1 .1 .1 .1 .1 .1 .1 .0))) (the-attempt-from .ensures)) (the-colour-at .ensures) (the-way-number .ensures) (the-queue-way .ensures))
+    rw (the-exit-cell .ensures) (tries-read (the-args .state) (the-pre .0) (the-pre .1 .1 .1 .0) (rw (the-exit-cell .ensures) at (the-wide .ensures)) (the-pre .1 .1 .1 .1 .1 .1 .1 .1 .0 .cols-are) (the-pre .1 .0) (the-pre .1 .1 .0) (the-pre .1 .1 .1 .1 .0) (the-pre .1 .1 .1 .1 .1 .1 .1 .0) (the-of-number .ensures) (the-attempt-from .ensures) (placed (leave-inside (the-args .state) (the-pre .0) (the-pre .1 .1 .1 .0) (rw (the-exit-cell .ensures) at (the-wide .ensures)) (the-pre .1 .1 .1 .1 .1 .1 .1 .1 .0 .cols-are)) (rw (the-of-number .ensures) (valid-number (the-args .state) (the-pre .1 .1 .1 .1 .1 .1 .1 .0))) (the-attempt-from .ensures)) (the-colour-at .ensures) (the-way-number .ensures) (the-queue-way .ensures))
 
 pub try-state-spec : {M : Type 1} → statement M
 try-state-spec =

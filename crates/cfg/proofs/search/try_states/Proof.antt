@@ -10,10 +10,10 @@ use Rattle.cfg.proofs.search.try_states.Statement.{statement}
 use Rattle.cfg.proofs.search.try_states.Tie as tie
 
 abbrev Inv-loop : tie.InvT-loop
-Inv-loop colours s edition map r rows₀ exits₀ work₀ tail end₀ state₀ rows exits work end state = (state ≤ 8) × Several edition (pictureOf colours s) map r state rows₀ exits₀ work₀ tail rows exits work end
+Inv-loop colours s edition map pairs r rows₀ exits₀ work₀ tail end₀ state₀ rows exits work end state = (state ≤ 8) × Several edition (pictureOf colours s) map r state rows₀ exits₀ work₀ tail rows exits work end
 
 abbrev μ-loop : tie.MeasureT-loop
-μ-loop colours s edition map r rows₀ exits₀ work₀ tail end₀ state₀ rows exits work end state = 8 - state
+μ-loop colours s edition map pairs r rows₀ exits₀ work₀ tail end₀ state₀ rows exits work end state = 8 - state
 
 loop-holds : tie.Need-loop-holds Inv-loop μ-loop
 loop-holds c =
