@@ -3,7 +3,7 @@
 ghost use mathlib.Core.Path.{_≡_};
 ghost use Prim.Native.Nat.{_+_, _*_, _/_, _%_, _<_, _≤_};
 ghost use lib.ListN.{length, getD};
-ghost use Rattle.colour.specs.Lookup.{Decodes};
+ghost use Rattle.colour.specs.Lookup.{DecodesPairs};
 ghost use Rattle.flow.specs.Pointer.{ofNumber};
 ghost use Rattle.picture.specs.Picture.{pictureOf, rowsOf, colsOf, codels, Frames};
 ghost use Rattle.table.specs.ExitNumber.{exitNumber};
@@ -12,7 +12,7 @@ ghost use Rattle.exit.specs.Leaving.{LeavesBy};
 ghost use Rattle.cfg.specs.Nodes.{Found};
 ghost use Rattle.cfg.specs.Search.{lostExit, wayNumber, Room, Visit, Queued, InGrid, Grounds, Queue, Tries, Several, Taken, Ready, Searched};
 use base::edition::Edition;
-use colour::decode::Pairs;
+use colour::decode::PairTable;
 use colour::decode::decode_in;
 use colour::decode::pair_table;
 use exit::attempt::Way;
@@ -123,7 +123,7 @@ fn way_number(
     s: Shape,
     edition: Edition,
     map: &[u32],
-    pairs: &Pairs,
+    pairs: &PairTable,
     from: u8,
     state: u8,
     way: Way,
@@ -132,7 +132,7 @@ fn way_number(
     requires { ⌜ InGrid (pictureOf (now colours) s) way ⌝ }
     requires { ⌜ state < 8 ⌝ }
     requires { ⌜ Frames (now colours) s ⌝ }
-    requires { ⌜ Decodes (now pairs) ⌝ }
+    requires { ⌜ DecodesPairs (now pairs) ⌝ }
     ensures { λ r. ⌜ r ≡ wayNumber edition (pictureOf (now (colours .entry)) s) (now (map .entry)) from state way ⌝ }
 {
     let cols = s.cols;
@@ -164,7 +164,7 @@ fn try_state(
     s: Shape,
     edition: Edition,
     map: &[u32],
-    pairs: &Pairs,
+    pairs: &PairTable,
     r: usize,
     state: u8,
     rows: &mut [u32],
@@ -181,7 +181,7 @@ fn try_state(
     requires { ⌜ r < 65536 ⌝ }
     requires { ⌜ state < 8 ⌝ }
     requires { ⌜ Frames (now colours) s ⌝ }
-    requires { ⌜ Decodes (now pairs) ⌝ }
+    requires { ⌜ DecodesPairs (now pairs) ⌝ }
     ensures { λ t. ⌜ Tries edition (pictureOf (now (colours .entry)) s) (now (map .entry)) r state (now (rows .entry)) (now (exits .entry)) (now (work .entry)) tail (now (rows .exit)) (now (exits .exit)) (now (work .exit)) t ⌝ }
 {
     let cell = exit_cell(r, state as usize);
@@ -202,7 +202,7 @@ fn try_states(
     s: Shape,
     edition: Edition,
     map: &[u32],
-    pairs: &Pairs,
+    pairs: &PairTable,
     r: usize,
     rows: &mut [u32],
     exits: &mut [u32],
@@ -212,7 +212,7 @@ fn try_states(
     requires { ⌜ Taken edition (pictureOf (now colours) s) (now map) (now exits) (now work) r ⌝ }
     requires { ⌜ Queue edition (pictureOf (now colours) s) (now map) (now rows) (now work) tail ⌝ }
     requires { ⌜ Frames (now colours) s ⌝ }
-    requires { ⌜ Decodes (now pairs) ⌝ }
+    requires { ⌜ DecodesPairs (now pairs) ⌝ }
     ensures { λ t. ⌜ Several edition (pictureOf (now (colours .entry)) s) (now (map .entry)) r 8 (now (rows .entry)) (now (exits .entry)) (now (work .entry)) tail (now (rows .exit)) (now (exits .exit)) (now (work .exit)) t ⌝ }
 {
     let mut end = tail;

@@ -6,14 +6,14 @@ use native.Mathlib.Omega.{arith}
 use lib.Dec.{eqb, eqb→eq, leb, leb→le, ltb, lit≤, T}
 use lib.ListN.{getD}
 use Rattle.colour.specs.Decode.{commands, hueSteps, darkerSteps, decodeOf}
-use Rattle.colour.specs.Lookup.{Decodes}
+use Rattle.colour.specs.Lookup.{DecodesPairs}
 use Rattle.base.proofs.Table.{all-two, all-two-at}
 
 abbrev right : List (List ℕ) → ℕ → ℕ → Bool
 right pairs from to = eqb (getD (getD pairs from []) to 0) (decodeOf from to)
 
 -- one test over the four hundred pairs
-pub all-right : (pairs : List (List ℕ)) → T (all-two 20 20 (right pairs)) → Decodes pairs
+pub all-right : (pairs : List (List ℕ)) → T (all-two 20 20 (right pairs)) → DecodesPairs pairs
 all-right pairs t =
     record { entry = λ from to h k. eqb→eq _ _ (all-two-at 20 20 (right pairs) t from to (omega arith) (omega arith)) }
 

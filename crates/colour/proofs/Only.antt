@@ -9,13 +9,15 @@
 -- Assumes nothing.
 use mathlib.Core.Path.{_≡_, _∙_, sym, ap, refl}
 use mathlib.Core.List.{List, [], _∷_}
-use Prim.Native.Nat.{ℕ, zero, suc, _≤_}
-use lib.ListN.{getD}
+use Prim.Native.Nat.{ℕ, zero, suc, _<_, _≤_}
+use native.Mathlib.Omega.{arith}
+use lib.ListN.{length, getD}
+use lib.Seq.{ext-getD}
 use Rattle.base.specs.Lent.{lent}
 use Rattle.base.specs.Numbers.{Numbers, numbers, unlessRefused}
 use Rattle.colour.specs.Classify as classify
 use Rattle.colour.specs.Label as label
-use Rattle.colour.specs.Lookup.{Decodes}
+use Rattle.colour.specs.Lookup.{DecodesPairs}
 use Rattle.colour.specs.Palette.{white}
 use Rattle.colour.specs.declared.classify.Classified.{Classified}
 use Rattle.colour.specs.declared.classify.Classified.the-variants.{Done, Size, Setting, Bytes, Room, Pixel}
@@ -79,7 +81,16 @@ label-only {colour} {x} {y} {before} {r} {r′} o o′ =
       o .leaves ∙ ap (λ (n : Numbers). unlessRefused n (lent (label.padded (label.labelOf colour x y)) before) before) e ∙ sym (o′ .leaves),
     )
 
--- two tables that `pair_table` may give have the same bytes
-pub pair-table-only : {p p′ : List (List ℕ)} → Decodes p → Decodes p′ → (from to : ℕ) → from ≤ white → to ≤ white
-    → getD (getD p from []) to 0 ≡ getD (getD p′ from []) to 0
-pair-table-only d d′ from to h k = d .entry from to h k ∙ sym (d′ .entry from to h k)
+-- twenty rows of twenty, as the type of `pair_table` has them
+abbrev Square : List (List ℕ) → Type 0
+Square p = (length p ≡ 20) × ((i : ℕ) → i < 20 → length (getD p i []) ≡ 20)
+
+-- two tables that `pair_table` may give are one
+pub pair-table-only : {p p′ : List (List ℕ)} → Square p → Square p′ → DecodesPairs p → DecodesPairs p′ → p ≡ p′
+pair-table-only {p} {p′} s s′ d d′ = ext-getD [] p p′ (s .0 ∙ sym (s′ .0)) (λ i h. row i (omega (arith, s .0)))
+  where
+    row : (i : ℕ) → i < 20 → getD p i [] ≡ getD p′ i []
+    row i h =
+        let n = s .1 i h in
+        ext-getD 0 (getD p i []) (getD p′ i []) (n ∙ sym (s′ .1 i h))
+        (λ j k. let m : j ≤ white = omega (arith, n) in d .entry i j (omega arith) m ∙ sym (d′ .entry i j (omega arith) m))

@@ -1,4 +1,5 @@
--- Inner: the tables in which the code looks up a colour and a change of colour. No public contract cites it. Assumes nothing.
+-- Inner: the tables in which the code looks up a colour and a change of colour. No entry
+-- point's contract cites it. Assumes nothing.
 use mathlib.Core.Path.{_≡_}
 use mathlib.Core.Bool.{cond}
 use mathlib.Core.List.{List, [], _∷_, map}
@@ -32,6 +33,7 @@ likelyFrom (suc count) n = firstWith n palette 0 ∷ likelyFrom count (suc n)
 abbrev pub likelyRows : List ℕ
 likelyRows = likelyFrom divisor 0
 
--- a table of the changes of colour: its entry for each ordered pair of colours is the instruction of the rule
-pub record Decodes (pairs : List (List ℕ)) : Type 0 where
+-- a table of the changes of colour: its entry for each ordered pair of colours, numbers up to white's, is the instruction of
+-- the rule
+pub record DecodesPairs (pairs : List (List ℕ)) : Type 0 where
   pub entry : (from to : ℕ) → from ≤ white → to ≤ white → getD (getD pairs from []) to 0 ≡ decodeOf from to

@@ -1,4 +1,4 @@
--- Inner: what the helpers of `read_p6` promise, by a scan from the left. No public contract cites it. Assumes nothing.
+-- Inner: what the helpers of `read_p6` promise, by a scan from the left. No entry point's contract cites it. Assumes nothing.
 use mathlib.Core.Path.{_≡_}
 use mathlib.Core.Bool.{Bool, true, false, not, cond, _||_}
 use mathlib.Core.List.{List, [], _∷_}

@@ -77,34 +77,16 @@ fn slides() {
     assert_eq!(first_exits(&[Colour::Black, Colour::White]), []);
 }
 
-/// The page's commands: a row for each step of hue, in it no step darker, one and two.
-const COMMANDS: [[Instruction; 3]; 6] = {
-    use Instruction::*;
-    [
-        [None, Push, Pop],
-        [Add, Sub, Mul],
-        [Div, Mod, Not],
-        [Gt, Ptr, Swi],
-        [Dup, Roll, IntIn],
-        [CharIn, IntOut, CharOut],
-    ]
-};
-
+/// Beside each of the eighteen colours; what is first white is refused.
 #[test]
-fn every_change_of_colour() {
-    let colour = |number: usize| Colour::try_from(number as u8).unwrap();
-    let onward =
-        |instruction| [(0, Cc::Left), (1, Cc::Right)].map(|(s, cc)| (s, exit(1, Dp::Right, cc, instruction)));
-    for (from, to) in (0..18).flat_map(|from| (0..18).map(move |to| (from, to))) {
-        let (hue, darker) = ((to % 6 + 6 - from % 6) % 6, (from / 6 + 3 - to / 6) % 3);
-        let exits = if from == to { vec![] } else { onward(COMMANDS[hue][darker]).to_vec() };
-        assert_eq!(first_exits(&[colour(from), colour(to)]), exits);
-    }
-    for other in (0..18).map(colour) {
-        assert_eq!(first_exits(&[other, Colour::Black]), []);
-        assert_eq!(first_exits(&[Colour::Black, other]), onward(Instruction::None));
-        let slid = first_exits(&[other, Colour::White]);
-        assert!(slid.len() == 2 && slid.iter().all(|(_, exit)| exit.instruction == Instruction::None));
+fn black_and_white_mean_none() {
+    let none = |target, dp| {
+        [(0, Cc::Left), (1, Cc::Right)].map(|(state, cc)| (state, exit(target, dp, cc, Instruction::None)))
+    };
+    for &colour in &Colour::ALL[..18] {
+        assert_eq!(first_exits(&[colour, Colour::Black]), [], "{colour:?}");
+        assert_eq!(first_exits(&[Colour::Black, colour]), none(1, Dp::Right), "{colour:?}");
+        assert_eq!(first_exits(&[colour, Colour::White]), none(0, Dp::Left), "{colour:?}");
     }
 }
 

@@ -1,5 +1,5 @@
--- `colour::decode::decode_in` meets its contract: the table has the rule's entry at each pair of colours, and what is no colour
--- is below 18 in no rule. Assumes nothing.
+-- `colour::decode::decode_in` meets its contract: the table has the rule's entry at each pair of colours; a number above 19 is not
+-- below 18, so that the rule gives none. Assumes nothing.
 use mathlib.Core.Bool.{and-false}
 use native.Mathlib.Omega.{arith}
 use borrow.Author.Tests.{le-ltb}

@@ -1,4 +1,4 @@
-//! Building: every small picture, pictures by chance, the largest ones, and what is refused.
+//! Building: every small picture, each change of colour, pictures by chance, the largest ones, and what is refused.
 use crate::cases::{
     bits, check, hex, is_edition, over, pattern, relent, wide, without_lines, Case, Checked, Named,
     Outcome, NO_EDITION,
@@ -17,8 +17,6 @@ pub const FAR: [usize; 4] = [0, 1_025, (1 << 32) + 1, usize::MAX];
 /// Red, light red, yellow, white, black.
 const FIVE: [u8; 5] = [6, 12, 7, 19, 18];
 
-const TWENTY: [u8; 20] = [0, 1, 2, 3, 4, 5, 6, 7, 8, 9, 10, 11, 12, 13, 14, 15, 16, 17, 18, 19];
-
 #[derive(Clone)]
 pub struct Building {
     pub height: usize,
@@ -33,9 +31,10 @@ pub struct Building {
 
 pub fn compare() -> Checked {
     let small = SIDES.into_iter().flat_map(|sides| over_colours(&FIVE, sides));
-    let counts = check("build, small", small)?.and(check("build, large", large())?);
-    let changes = [(1, 2), (2, 1)].into_iter().flat_map(|sides| over_colours(&TWENTY, sides));
-    let counts = counts.and(check("build, each change of colour", changes)?);
+    let twenty: Vec<u8> = (0..20).collect();
+    let changes = [(1, 2), (2, 1)].into_iter().flat_map(|sides| over_colours(&twenty, sides));
+    let counts = check("build, small", small)?.and(check("build, each change", changes)?);
+    let counts = counts.and(check("build, large", large())?);
     let mut random = Random::seeded(SEED);
     Ok(counts.and(check("build, by chance", (0..BY_CHANCE).map(|_| by_chance(&mut random)))?))
 }
