@@ -17,13 +17,15 @@ use Rattle.piet.specs.RunPicture.{Asked, Lends, RanPicture}
 use Rattle.piet.specs.RunPicture as running
 use Rattle.job.specs.Encoding.{Content, IsJob}
 use Rattle.report.specs.Text.{refusalText}
-use Rattle.answer.specs.Answer.{askedOf, refusalOf, Answers, refused, ran, Prints, Outcome, short, printed}
+use Rattle.answer.specs.Program.{askedOf, refusalOf, Answers, refused, ran, Prints, Printed, short, printed}
+use Rattle.answer.specs.Answer.{Result}
 use Rattle.answer.specs.Printing.{linesOf, Printable}
-use Rattle.answer.proofs.Ending.{Sized, same-refusal, printable, lines-are, ran-so}
+use Rattle.answer.proofs.Ending.{Sized, same-refusal, labelled, printable, lines-are, ran-so}
 use Rattle.base.proofs.Clash.{clash}
 
 -- the text at the start
-pub prints : {job before after text : List ℕ} {n : ℕ} → Answers job text → Put before 0 text n after → Prints job before n after
+pub prints : {Shows : Content → List ℕ → Type 0} {job before after text : List ℕ} {n : ℕ} → Answers Shows job text → Put before 0 text n after
+    → Prints Shows job before n after
 prints {before = before} {text = text} a p = record {
   text = text;
   answers = a;
@@ -49,8 +51,8 @@ refusal-is r z (running.refused k v h q) = (k, v, (let e = sym (ap running.numbe
 refusal-is r z (running.done none R) = clash (cc)
 
 module _ {job : List ℕ} (c : Content) (j : IsJob job c) {l l′ : Lends} (s : Sized l) where
-  pub prints-refusal : {n y x r : ℕ} {before after : List ℕ} → running.Outcome (askedOf c) l (Refused n y x) l′ → Put before 0 (refusalText n) r after
-      → Prints job before r after
+  pub prints-refusal : {Shows : Content → List ℕ → Type 0} {n y x r : ℕ} {before after : List ℕ} → running.Outcome (askedOf c) l (Refused n y x) l′ → Put before 0 (refusalText n) r after
+      → Prints Shows job before r after
   prints-refusal {n} o p =
       let (k, v, e, h) = refusal-is _ refl o in
       prints (rw e (refused c j k v (sym (same-refusal c s) ∙ h))) p
@@ -66,12 +68,21 @@ module _ {job : List ℕ} (c : Content) (j : IsJob job c) {l l′ : Lends} (s : 
     printable-end room h = rw (f .is) (printable c s s′ none (f .runs) room h)
 
     pub prints-end : {before after : List ℕ} {r : ℕ} → Put before 0 (linesOf x (l′ .rows) (l′ .run .stack) (l′ .run .kinds) (l′ .run .values)) r after
-        → Prints job before r after
+        → Prints Result job before r after
     prints-end p =
-        prints (ran c j none _ (f .end) _ (ran-so c s s′ none (f .runs))) (rw (f .is, lines-are c s s′ none (f .runs)) at p)
+        prints
+        (ran c j none (record {
+          map = _;
+          end = f .end;
+          label = _;
+          ran = ran-so c s s′ none (f .runs);
+          labelled = labelled c s s′ none (f .runs) (f .end .at .region) (f .runs .inside);
+          is = refl;
+        }))
+        (rw (f .is, lines-are c s s′ none (f .runs)) at p)
 
 -- the text lies in what is lent, so that a caller may take that part
-pub answer-within : {job before after : List ℕ} {r : ℕ} → Outcome job before r after → r ≤ length after
+pub answer-within : {Shows : Content → List ℕ → Type 0} {room : ℕ} {job before after : List ℕ} {r : ℕ} → Printed Shows room job before r after → r ≤ length after
 unfolding lent
 answer-within (short h e f) = omega arith
 answer-within {before = before} {after = after} (printed h P) =

@@ -1,4 +1,4 @@
--- What a run of a job's picture leaves can be printed, and what is printed is its end. Assumes nothing.
+-- What a run of a job's picture leaves can be printed, each region's label too, and what is printed is its end. Assumes nothing.
 use mathlib.Core.Path.{_≡_, refl, sym, ap, _∙_}
 use mathlib.Core.List.{List, [], _∷_}
 use Prim.Native.Nat.{ℕ, zero, suc, _*_, _/_, _%_, _<_, _≤_}
@@ -28,7 +28,8 @@ use Rattle.piet.specs.RunPicture as running
 use Rattle.piet.proofs.Refusing as picture
 use Rattle.piet.proofs.Seeing.{legal-under}
 use Rattle.job.specs.Encoding.{Content}
-use Rattle.answer.specs.Answer.{askedOf, refusalOf, runRoom, Ran, endText}
+use Rattle.answer.specs.Program.{askedOf, refusalOf, runRoom, Ran, Labels}
+use Rattle.answer.specs.Answer.{endText}
 use Rattle.answer.specs.Printing.{HasLabel, labelIn, linesOf, Printable}
 use Rattle.answer.proofs.Slices.{stack-back, stack-few, outs-back, outs-few}
 
@@ -80,48 +81,49 @@ module _ (c : Content) {l l′ : Lends} {e : End} (s : Sized l) (s′ : Sized l�
   abbrev m : List ℕ
   m = take (codels p) (l′ .map)
 
-  abbrev r : ℕ
-  r = e .at .region
+  -- a region's row, and its label
+  module _ (r : ℕ) (inside : r < R .regions) where
+    row : Row (gridOf p) (p .codel) (codels p) m r (rowAt (take (rowsRoom (codels p)) (l′ .rows)) r)
+    row = R .table .builds .row r inside
 
-  -- the region's row
-  row : Row (gridOf p) (p .codel) (codels p) m r (rowAt (take (rowsRoom (codels p)) (l′ .rows)) r)
-  row = R .table .builds .row r (R .inside)
+    region-in : r < codels p
+    region-in = omega (arith, inside, map-few (gridOf p) m (R .regions) (R .table .builds .regions))
 
-  region-in : r < codels p
-  region-in = omega (arith, R .inside, map-few (gridOf p) m (R .regions) (R .table .builds .regions))
+    cell : (k : ℕ) → k < 5 → fieldAt (take (rowsRoom (codels p)) (l′ .rows)) r k ≡ fieldAt (l′ .rows) r k
+    cell k q = getD-take (rowsRoom (codels p)) (l′ .rows) (rowCell r k) 0 (cells.row-in (codels p) r k q region-in)
 
-  cell : (k : ℕ) → k < 5 → fieldAt (take (rowsRoom (codels p)) (l′ .rows)) r k ≡ fieldAt (l′ .rows) r k
-  cell k q = getD-take (rowsRoom (codels p)) (l′ .rows) (rowCell r k) 0 (cells.row-in (codels p) r k q region-in)
+    colour-is : fieldAt (l′ .rows) r colourField ≡ codelColour p (row .first)
+    colour-is = sym (cell colourField (omega arith)) ∙ row .colour
 
-  colour-is : fieldAt (l′ .rows) r colourField ≡ codelColour p (row .first)
-  colour-is = sym (cell colourField (omega arith)) ∙ row .colour
+    row-is : fieldAt (l′ .rows) r rowField ≡ row .first / colsOf p * p .codel
+    row-is = sym (cell rowField (omega arith)) ∙ row .row
 
-  row-is : fieldAt (l′ .rows) r rowField ≡ row .first / colsOf p * p .codel
-  row-is = sym (cell rowField (omega arith)) ∙ row .row
+    column-is : fieldAt (l′ .rows) r columnField ≡ row .first % colsOf p * p .codel
+    column-is = sym (cell columnField (omega arith)) ∙ row .column
 
-  column-is : fieldAt (l′ .rows) r columnField ≡ row .first % colsOf p * p .codel
-  column-is = sym (cell columnField (omega arith)) ∙ row .column
+    pub has-label : HasLabel (l′ .rows) r
+    has-label =
+        let E = enough c h in
+        let S = E .sound in
+        let i = inside-of S (row .first) (row .is-first .inside) in
+        let a = row-in S _ _ i in
+        let b = col-in S _ _ i in
+        let high = S .not-high in
+        let wide = S .not-wide in
+        let few = S .few in
+        let room = E .rows-in in
+        record {
+          few = omega (arith, region-in);
+          there = omega (arith, region-in, s′ .rows);
+          legal = record {
+            colour-in = rw colour-is (legal-at (p .colours) (legal-under (c .pixels) (askedOf c .setting)) _);
+            row-in = rw row-is (omega arith);
+            column-in = rw column-is (omega arith);
+          };
+        }
 
-  has-label : HasLabel (l′ .rows) r
-  has-label =
-      let E = enough c h in
-      let S = E .sound in
-      let i = inside-of S (row .first) (row .is-first .inside) in
-      let a = row-in S _ _ i in
-      let b = col-in S _ _ i in
-      let high = S .not-high in
-      let wide = S .not-wide in
-      let few = S .few in
-      let room = E .rows-in in
-      record {
-        few = omega (arith, region-in);
-        there = omega (arith, region-in, s′ .rows);
-        legal = record {
-          colour-in = rw colour-is (legal-at (p .colours) (legal-under (c .pixels) (askedOf c .setting)) _);
-          row-in = rw row-is (omega arith);
-          column-in = rw column-is (omega arith);
-        };
-      }
+    pub labelled : Labels p m r (labelIn (l′ .rows) r)
+    labelled = record { first = row .first; is-first = row .is-first; is = rw (colour-is, row-is, column-is) }
 
   stack-is : l′ .run .stack ≡ slicesOf (l .run) (e .at .store) .stack
   stack-is = ap (λ (x : Slices). x .stack) (R .run)
@@ -140,7 +142,7 @@ module _ (c : Content) {l l′ : Lends} {e : End} (s : Sized l) (s′ : Sized l�
 
   pub printable : (room : ℕ) → 16384 ≤ room → Printable room (endedOf e) (l′ .rows) (l′ .run .stack) (l′ .run .kinds) (l′ .run .values)
   printable room h = record {
-    labelled = has-label;
+    labelled = has-label (e .at .region) (R .inside);
     fits = record {
       roomy = h;
       brief = omega arith;
@@ -152,7 +154,7 @@ module _ (c : Content) {l l′ : Lends} {e : End} (s : Sized l) (s′ : Sized l�
     };
   }
 
-  pub lines-are : linesOf (endedOf e) (l′ .rows) (l′ .run .stack) (l′ .run .kinds) (l′ .run .values) ≡ endText e (labelIn (l′ .rows) r)
+  pub lines-are : linesOf (endedOf e) (l′ .rows) (l′ .run .stack) (l′ .run .kinds) (l′ .run .values) ≡ endText e (labelIn (l′ .rows) (e .at .region))
   lines-are =
       rw (
         stack-is,
@@ -162,11 +164,10 @@ module _ (c : Content) {l l′ : Lends} {e : End} (s : Sized l) (s′ : Sized l�
         outs-back (length (l .run .kinds)) (length (l .run .values)) (e .at .store .outs),
       )
 
-  pub ran-so : Ran c m e (labelIn (l′ .rows) r)
+  pub ran-so : Ran c m e
   ran-so = record {
     regions = R .regions;
     long = R .table .builds .map-long;
     numbered = R .table .builds .regions;
     follows = rw (same-room s) at (R .follows);
-    labelled = record { first = row .first; is-first = row .is-first; is = rw (colour-is, row-is, column-is) };
   }

@@ -12,7 +12,7 @@ use Rattle.colour.proofs.SettingLaws.{all-known}
 use Rattle.piet.specs.RunPicture.{refusals, refusal}
 use Rattle.piet.proofs.Refusing.{accepted}
 use Rattle.job.specs.Encoding.{Content}
-use Rattle.answer.specs.Answer.{askedOf, refusalOf}
+use Rattle.answer.specs.Program.{askedOf, refusalOf}
 use Rattle.answer.proofs.Ending.{fresh, fresh-sized, same-refusal}
 
 -- every pixel of a job that is not refused is known

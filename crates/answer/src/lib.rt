@@ -6,7 +6,8 @@ ghost use Rattle.colour.specs.Label.{labelOf};
 ghost use Rattle.piet.specs.RunPicture as running;
 ghost use Rattle.piet.specs.RunPicture.{lends};
 ghost use Rattle.job.specs.Outcome.{Reads, contentOf};
-ghost use Rattle.answer.specs.Answer.{askedOf, Prints, Outcome};
+ghost use Rattle.answer.specs.Program.{askedOf, Prints};
+ghost use Rattle.answer.specs.Answer.{Result, Outcome};
 ghost use Rattle.answer.specs.Printing.{Starts, Legal, HasLabel, labelIn, linesOf, Printable};
 use base::edition::RUST_EDITION;
 use colour::label::Labelled;
@@ -45,7 +46,7 @@ fn put_label(colour: u32, row: u32, column: u32, out: &mut [u8]) -> usize
 }
 
 // The label of a region of the table.
-fn label_region(rows: &[u32], region: usize, out: &mut [u8]) -> usize
+pub fn label_region(rows: &[u32], region: usize, out: &mut [u8]) -> usize
     requires { ⌜ HasLabel (now rows) region × (22 ≤ length (now out)) ⌝ }
     ensures { λ r. ⌜ Starts (now (out .exit)) r (labelIn (now (rows .entry)) region) × (r ≤ 22) ⌝ }
 {
@@ -85,7 +86,7 @@ fn put_ended(
 }
 
 // The run that a job asks for: unknown pixels refused, edition 1, its pixels and its input as parts of the job.
-fn run_parts(
+pub fn run_parts(
     job: &[u8],
     p: Parts,
     colours: &mut [u8],
@@ -128,7 +129,7 @@ fn run_parts(
 // Runs a job that was read, with room for 512 pixels, 256 stack cells and 256 outputs.
 fn run_job(job: &[u8], out: &mut [u8], p: Parts) -> usize
     requires { ⌜ (16384 ≤ length (now out)) × Reads (now job) p ⌝ }
-    ensures { λ r. ⌜ Prints (now (job .entry)) (now (out .entry)) r (now (out .exit)) ⌝ }
+    ensures { λ r. ⌜ Prints Result (now (job .entry)) (now (out .entry)) r (now (out .exit)) ⌝ }
 {
     let mut colours = [0u8; 512];
     let mut map = [0u32; 512];

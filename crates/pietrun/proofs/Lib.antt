@@ -1,3 +1,2 @@
--- From the answer to what was read to the answer to the input, and that there is one.
-pub mod Cutting
+-- The program's response is one.
 pub mod Only

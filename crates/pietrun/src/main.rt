@@ -3,7 +3,8 @@
 ghost use mathlib.Core.Path.{_≡_};
 ghost use Prim.Native.Nat.{_≤_};
 ghost use lib.ListN.{length};
-ghost use Rattle.pietrun.specs.Responds.{Responds};
+ghost use Rattle.stream.specs.Responds.{Responds};
+ghost use Rattle.answer.specs.Answer.{Outcome};
 use libc::STDIN_FILENO;
 use libc::STDOUT_FILENO;
 use stream::Stop;
@@ -12,7 +13,7 @@ use stream::Stop;
 fn respond(stop: Stop, job: &[u8], out: &mut [u8]) -> usize
     requires { ⌜ (8193 ≡ length (now job)) × (stop .done ≤ length (now job)) ⌝ }
     ensures within { λ r. ⌜ r ≤ length (now (out .exit)) ⌝ }
-    ensures says { λ r. ⌜ Responds stop (now (job .entry)) (now (out .entry)) r (now (out .exit)) ⌝ }
+    ensures says { λ r. ⌜ Responds Outcome stop (now (job .entry)) (now (out .entry)) r (now (out .exit)) ⌝ }
 {
     if !stream::is_whole(stop, job.len()) {
         return 0;

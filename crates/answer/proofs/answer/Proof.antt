@@ -2,7 +2,7 @@
 -- Assumes nothing.
 use mathlib.Core.Path.{refl}
 use Rattle.job.proofs.Only.{accepted-reads, refused-none}
-use Rattle.answer.specs.Answer.{no-job, short, printed}
+use Rattle.answer.specs.Program.{no-job, short, printed}
 use Rattle.answer.proofs.Answering.{prints}
 use borrow.Author.Needs.{needs}
 use Rattle.answer.proofs.answer.Statement.{statement}

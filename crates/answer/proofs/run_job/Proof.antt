@@ -6,7 +6,7 @@ use Rattle.piet.specs.RunPicture as running
 use Rattle.piet.specs.RunPicture.{Lends, lends}
 use Rattle.job.specs.Encoding.{Content}
 use Rattle.job.specs.Outcome.{contentOf}
-use Rattle.answer.specs.Answer.{askedOf}
+use Rattle.answer.specs.Program.{askedOf}
 use Rattle.answer.proofs.Ending.{Sized, fresh, fresh-sized}
 use Rattle.answer.proofs.Answering.{printable-end, prints-end, prints-refusal}
 use borrow.Author.Needs.{needs}

@@ -4,8 +4,8 @@ use native.Mathlib.Omega.{arith}
 use lib.Seq.{length-take-le}
 use borrow.Author.Tests.{not-true, not-false}
 use Rattle.answer.proofs.Answering.{answer-within}
-use Rattle.pietrun.specs.Responds.{answered, unread}
-use Rattle.pietrun.proofs.Cutting.{cut-outcome}
+use Rattle.stream.specs.Responds.{answered, unread}
+use Rattle.answer.proofs.Cutting.{cut-printed}
 use borrow.Author.Needs.{needs}
 use Rattle.pietrun.proofs.respond.Statement.{statement}
 use Rattle.pietrun.proofs.respond.Tie as tie
@@ -30,7 +30,7 @@ returns-2 c =
     let whole = c .before .before .before .before .before in
     let said = c .before .before .answer in (
       answer-within (said .ensures),
-      answered (sym (whole .before .is-whole .ensures) ∙ not-false (whole .before .is-whole .result) (whole .if1 .left)) (λ input h. cut-outcome input (rw h at (said .ensures))),
+      answered (sym (whole .before .is-whole .ensures) ∙ not-false (whole .before .is-whole .result) (whole .if1 .left)) (λ input h. cut-printed input (rw (h, ← whole .before .before .before .before .pre .0) at (said .ensures))),
     )
 
 pub respond-spec : {M : Type 1} → statement M

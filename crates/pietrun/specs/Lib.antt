@@ -1,2 +1,0 @@
--- What the run program prints of what it read.
-pub mod Responds
