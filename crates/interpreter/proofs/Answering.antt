@@ -1,6 +1,7 @@
 -- A call's answer, by whether it is refused.
 --     answer-unknown, answer-wrong, answer-right, test-call    by the tests of the edition and of the table
 --     run-refuses, run-finishes    what `run` answers and leaves is its outcome
+--     record-refuses, record-finishes, recorded    the same of `run_history`
 --     refuses, finishes            and the other way round: what its outcome says
 --     status-some                  no status is 0
 --     result-cells                 a result has as many numbers as its cells say
@@ -22,7 +23,7 @@ use Rattle.machine.specs.declared.Stop.{Stop}
 use Rattle.machine.specs.declared.Stop.the-variants.{Completed, MaxSteps, NeedsInput, StackFull, OutputFull, BadInput}
 use Rattle.machine.specs.Machine.{Asks, givenOf, statusOf}
 use Rattle.machine.specs.Held.{Slices}
-use Rattle.machine.specs.Place.{End}
+use Rattle.machine.specs.Place.{start, End}
 use Rattle.interpreter.specs.declared.Ended.{Ended}
 use Rattle.interpreter.specs.declared.Ran.{Ran}
 use Rattle.interpreter.specs.declared.Ran.the-variants.{Refused, Finished}
@@ -30,7 +31,10 @@ use Rattle.interpreter.specs.declared.Forever.{Forever}
 use Rattle.interpreter.specs.declared.Forever.the-variants as Verdict
 use Rattle.interpreter.specs.Table.{wrongTable, validOf, every}
 use Rattle.interpreter.specs.Forever as Always
-use Rattle.interpreter.specs.Outcome.{slicesOf, endedOf, resultOf, resultCells, refused, numbered, endOf, answer, Outcome}
+use Rattle.interpreter.specs.Outcome.{slicesOf, endedOf, resultOf, resultCells, refused, numbered, jobOf, endOf, answer, Outcome}
+use Rattle.interpreter.specs.History.{History}
+use Rattle.interpreter.specs.Recorded.{takenOf, Recorded}
+use Rattle.interpreter.proofs.Histories.{run-history}
 
 pub result-cells : (e : Ended) → length (resultOf e) ≡ resultCells
 result-cells e = refl
@@ -104,6 +108,27 @@ module _ (n : ℕ) (rows exits : List ℕ) (a : Asks) (l : Slices) where
     where
       same : {x : Ended} → Finished r ≡ Finished x → x ≡ r
       same h = cc
+
+  -- the same with the exits recorded
+  module _ (taken : List ℕ) where
+    -- the list of exits by the answer
+    abbrev kept : List ℕ → Numbers → List ℕ
+    kept ws x = unlessRefused x (takenOf ws taken) taken
+
+    pub record-refuses : (k : ℕ) → answer n rows exits a l ≡ refused (suc k) → Recorded n rows exits a l taken (Refused (suc k)) l taken
+    record-refuses k e =
+        let h = run-history (jobOf rows exits (givenOf a) l) (a .limit) start in
+        record { run = run-refuses k e; history = h; leaves = sym (ap (kept (h .exits)) e) }
+
+    pub record-finishes : {r : Ended} {l′ : Slices} {taken′ : List ℕ} (e : answer n rows exits a l ≡ numbers 0 (resultOf (endedOf end)))
+        → Outcome n rows exits a l (Finished r) l′ → (h : History (jobOf rows exits (givenOf a) l) (a .limit) start end) → taken′ ≡ takenOf (h .exits) taken
+        → Recorded n rows exits a l taken (Finished r) l′ taken′
+    record-finishes e o h q = record { run = o; history = h; leaves = q ∙ sym (ap (kept (h .exits)) e) }
+
+    -- what the list is by the history
+    pub recorded : {r : Ran} {l′ : Slices} {taken′ : List ℕ} (o : Recorded n rows exits a l taken r l′ taken′)
+        → answer n rows exits a l ≡ numbers 0 (resultOf (endedOf end)) → taken′ ≡ takenOf (o .history .exits) taken
+    recorded o e = o .leaves ∙ ap (kept (o .history .exits)) e
 
   module _ {r : Ran} {l′ : Slices} (o : Outcome n rows exits a l r l′) where
     pub refuses : (k : ℕ) → answer n rows exits a l ≡ refused (suc k) → (r ≡ Refused (suc k)) × (l′ ≡ l)

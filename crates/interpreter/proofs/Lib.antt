@@ -7,7 +7,7 @@ pub mod Settled
 pub mod Answering
 pub mod Histories
 pub mod Entering
-pub mod Tallying
+pub mod Observing
 pub mod Resuming
 pub mod Only
 pub mod Examples

@@ -1,28 +1,31 @@
 -- Two outcomes that a contract allows for one input are equal, answer and every lent list, for each public function:
 --     run                       run-only
+--     run_history               recorded-only
 --     resume                    resume-only
---     run_counting              run-counting-only
+--     run_observed              run-observed-only
 --     determine_runs_forever    forever-only
 --     valid                     `equation-only` of base's proofs/Only.antt
 -- and what the answers say:
 --     run-refusal               15 exactly where the edition is unknown, else 10 exactly where the table is not valid, and then
---                               nothing changes
+--                               nothing changes; `recorded-refused`: nor do the cells for exits
+--     recorded-exits            the cells hold the exits in their order, as far as there are exits and cells, and past them what they held
 --     forever-answer            which of its three answers `determine_runs_forever` gives
 -- Assumes nothing.
 use mathlib.Core.Path.{_≡_, refl, sym, ap, _∙_}
 use mathlib.Core.Bool.{Bool, true, false, not, cond}
 use mathlib.Core.List.{List, [], _∷_, map}
-use Prim.Native.Nat.{ℕ, _+_, _<_}
+use Prim.Native.Nat.{ℕ, zero, suc, _+_, _<_, _≤_}
 use native.Mathlib.Omega.{arith}
 use lib.Dec.{eqb}
-use lib.ListN.{length, getD}
-use lib.Seq.{ext-getD}
+use lib.ListN.{length, getD, take, length-take}
+use lib.Seq.{ext-getD, getD-take}
 use Rattle.base.specs.declared.edition.Edition.the-variants.{Rust}
 use Rattle.base.specs.Edition.{unknownEdition, editionOf}
-use Rattle.base.specs.Numbers.{Numbers, numbers, numberOf, valuesOf, row, first}
+use Rattle.base.specs.Numbers.{Numbers, numbers, numberOf, valuesOf, row, first, unlessRefused}
+use Rattle.base.proofs.Over.{lent-front, lent-past}
 use Rattle.base.specs.Counting.{count}
 use Rattle.table.specs.ExitNumber.{targetOf}
-use Rattle.machine.specs.Machine.{Given, Asks}
+use Rattle.machine.specs.Machine.{Given, Asks, givenOf}
 use Rattle.machine.specs.Place.{Machine, End}
 use Rattle.machine.specs.Held.{Slices}
 use Rattle.machine.proofs.Only.{AsLong}
@@ -34,12 +37,13 @@ use Rattle.interpreter.specs.declared.Forever.the-variants.{Refused, Yes
 use Rattle.interpreter.specs.Table.{wrongTable, validOf, every}
 use Rattle.interpreter.specs.Forever as Always
 use Rattle.interpreter.specs.Run.{Job}
-use Rattle.interpreter.specs.Outcome.{refused, numbered, Outcome}
+use Rattle.interpreter.specs.Outcome.{refused, numbered, jobOf, answer, Outcome}
 use Rattle.interpreter.specs.Resume.{Resumed, Started}
-use Rattle.interpreter.specs.Gains.{Gains, GainsAll}
+use Rattle.interpreter.specs.Recorded.{takenOf, Recorded}
+use Rattle.interpreter.specs.Observed.{Observed, ObservedAll}
 use Rattle.interpreter.proofs.Histories.{histories-same}
 use Rattle.interpreter.proofs.Settled.{settled}
-use Rattle.interpreter.proofs.Answering.{Tested, unknown, wrong, right, test-call, answer-unknown, answer-wrong, answer-right, refuses, finishes}
+use Rattle.interpreter.proofs.Answering.{Tested, unknown, wrong, right, test-call, answer-unknown, answer-wrong, answer-right, refuses, finishes, recorded}
 
 module _ (n : ℕ) (rows exits : List ℕ) (a : Asks) (l : Slices) where
   pub run-only : {r r′ : Ran} {l′ l″ : Slices} → Outcome n rows exits a l r l′ → Outcome n rows exits a l r′ l″ → (r ≡ r′) × (l′ ≡ l″)
@@ -80,6 +84,39 @@ module _ (n : ℕ) (rows exits : List ℕ) (a : Asks) (l : Slices) where
     none = λ u v. ap (λ (y : Ran). numberOf (numbered y)) (finishes n rows exits a l o (answer-right n rows exits a l u v) .0);
   }
 
+-- the same with the exits recorded
+module _ (n : ℕ) (rows exits : List ℕ) (a : Asks) (l : Slices) (taken : List ℕ) where
+  pub recorded-only : {r r′ : Ran} {l′ l″ : Slices} {t′ t″ : List ℕ} → Recorded n rows exits a l taken r l′ t′ → Recorded n rows exits a l taken r′ l″ t″
+      → (r ≡ r′) × (l′ ≡ l″) × (t′ ≡ t″)
+  recorded-only p q =
+      let same = run-only n rows exits a l (p .run) (q .run) in
+      let one = histories-same (jobOf rows exits (givenOf a) l) (p .history) (q .history) in
+      (same .0, same .1, p .leaves ∙ ap (λ (ws : List ℕ). unlessRefused (answer n rows exits a l) (takenOf ws taken) taken) one ∙ sym (q .leaves))
+
+  module _ {r : Ran} {l′ : Slices} {t′ : List ℕ} (o : Recorded n rows exits a l taken r l′ t′) where
+    -- a refused call
+    pub recorded-refused : (numberOf (numbered r) ≡ 0 → ⊥) → t′ ≡ taken
+    recorded-refused h = o .leaves ∙ kept (answer n rows exits a l) (λ z. h (ap numberOf (o .run .answers) ∙ z))
+      where
+        kept : (x : Numbers) → (numberOf x ≡ 0 → ⊥) → unlessRefused x (takenOf (o .history .exits) taken) taken ≡ taken
+        kept (numbers zero v) h = absurd (h refl)
+        kept (numbers (suc k) v) h = refl
+
+    -- one that is not
+    pub recorded-exits : unknownEdition (a .edition) ≡ false → validOf (editionOf (a .edition)) n rows exits ≡ true
+        → ((i : ℕ) → i < length (o .history .exits) → i < length taken → getD t′ i 0 ≡ getD (o .history .exits) i 0)
+        × ((i : ℕ) → length (o .history .exits) ≤ i → getD t′ i 0 ≡ getD taken i 0)
+    recorded-exits u v =
+        let ws = o .history .exits in
+        let is : t′ ≡ takenOf ws taken = recorded n rows exits a l taken o (answer-right n rows exits a l u v) in
+        let first = take (length taken) ws in (
+          λ i h k.
+              ap (λ (x : List ℕ). getD x i 0) is
+              ∙ lent-front first taken 0 i (omega (arith, length-take (length taken) ws))
+              ∙ getD-take (length taken) ws i 0 k,
+          λ i h. ap (λ (x : List ℕ). getD x i 0) is ∙ lent-past first taken 0 i (omega (arith, length-take (length taken) ws)),
+        )
+
 -- a call leaves the length of a lent slice as it is
 module _ (n : ℕ) (rows exits : List ℕ) (g : Given) (l : Slices) (from : State) where
   pub resume-only : (l′ l″ : Slices) (r r′ : Ended) → AsLong l′ l → AsLong l″ l
@@ -89,25 +126,27 @@ module _ (n : ℕ) (rows exits : List ℕ) (g : Given) (l : Slices) (from : Stat
       let b = settled n _ l″ l r′ k q in
       (a .0 ∙ sym (b .0), a .1 ∙ sym (b .1))
 
--- cells grow in one way
-gains-only : {j : Job} {k : ℕ} {m : Machine} {e : End} {v v′ v″ : List ℕ} → length v′ ≡ length v → length v″ ≡ length v
-    → Gains j k m e v v′ → Gains j k m e v v″ → v′ ≡ v″
-gains-only {j} {v = v} {v′} {v″} h i p q =
-    ext-getD 0 v′ v″ (h ∙ sym i)
-    (λ r k.
-    let b : r < length v = omega arith in
-    p .cells r b
-    ∙ ap (λ (ws : List ℕ). getD v r 0 + count r (map targetOf ws)) (histories-same j (p .history) (q .history))
-    ∙ sym (q .cells r b))
+-- a run is observed in one way
+observed-only : {j : Job} {k : ℕ} {m : Machine} {e : End} {v v′ v″ t t′ t″ : List ℕ} → length v′ ≡ length v → length v″ ≡ length v
+    → Observed j k m e v v′ t t′ → Observed j k m e v v″ t t″ → (v′ ≡ v″) × (t′ ≡ t″)
+observed-only {j} {v = v} {v′} {v″} {t} h i p q =
+    let same = histories-same j (p .history) (q .history) in (
+      ext-getD 0 v′ v″ (h ∙ sym i)
+          (λ r k.
+          let b : r < length v = omega arith in
+          p .cells r b ∙ ap (λ (ws : List ℕ). getD v r 0 + count r (map targetOf ws)) same ∙ sym (q .cells r b)),
+      p .exits ∙ ap (λ (ws : List ℕ). takenOf ws t) same ∙ sym (q .exits),
+    )
 
-module _ (n : ℕ) (rows exits : List ℕ) (g : Given) (l : Slices) (v : List ℕ) where
-  pub run-counting-only : (r r′ : Ended) {l′ l″ : Slices} {v′ v″ : List ℕ} → AsLong l′ l → AsLong l″ l → length v′ ≡ length v → length v″ ≡ length v
-      → Started n rows exits g l l′ r × GainsAll rows exits g l v v′ → Started n rows exits g l l″ r′ × GainsAll rows exits g l v v″
-      → (r ≡ r′) × (l′ ≡ l″) × (v′ ≡ v″)
-  run-counting-only r r′ {l′} {l″} h k x y p q =
+module _ (n : ℕ) (rows exits : List ℕ) (g : Given) (l : Slices) (v t : List ℕ) where
+  pub run-observed-only : (r r′ : Ended) {l′ l″ : Slices} {v′ v″ t′ t″ : List ℕ} → AsLong l′ l → AsLong l″ l → length v′ ≡ length v → length v″ ≡ length v
+      → Started n rows exits g l l′ r × ObservedAll rows exits g l v v′ t t′ → Started n rows exits g l l″ r′ × ObservedAll rows exits g l v v″ t t″
+      → (r ≡ r′) × (l′ ≡ l″) × (v′ ≡ v″) × (t′ ≡ t″)
+  run-observed-only r r′ {l′} {l″} h k x y p q =
       let a = settled n _ l′ l r h (p .0) in
       let b = settled n _ l″ l r′ k (q .0) in
-      (a .0 ∙ sym (b .0), a .1 ∙ sym (b .1), gains-only x y (p .1) (q .1))
+      let o = observed-only x y (p .1) (q .1) in
+      (a .0 ∙ sym (b .0), a .1 ∙ sym (b .1), o .0, o .1)
 
 -- the answer that its numbers name
 abbrev toldBy : Numbers → Forever

@@ -67,7 +67,7 @@ module _ (n : ℕ) (rows exits : List ℕ) (g : Given) (l₀ : Slices) (from : S
         (sym (e ∙ ap (λ (j : Job). stepOf j (machineOf l at)) (same-job rows exits g (a .long))))
 
     pub along-next : {l′ : Slices} {at′ : State} → at .steps < limit
-        → Steps (stepOf (jobOf rows exits g l) (machineOf l at)) n l at l′ (To at′) → AsLong l′ l → Along l′ at′
+        → {by w : ℕ} → Steps (stepOf (jobOf rows exits g l) (machineOf l at)) w n l at l′ (To at′ by) → AsLong l′ l → Along l′ at′
     unfolding After nextOf after
     along-next {l′} {at′} h s e = record {
       placed = s .leaves .0;
@@ -80,7 +80,7 @@ module _ (n : ℕ) (rows exits : List ℕ) (g : Given) (l₀ : Slices) (from : S
     }
 
     pub ends-halted : {l′ : Slices} (s : Stop) → at .steps < limit
-        → Steps (stepOf (jobOf rows exits g l) (machineOf l at)) n l at l′ (Halted s)
+        → {w : ℕ} → Steps (stepOf (jobOf rows exits g l) (machineOf l at)) w n l at l′ (Halted s)
         → Reaches n whole l′ (record { stop = s; at = at })
     unfolding After nextOf after
     ends-halted s h x =

@@ -1,5 +1,5 @@
 -- One step, by what its exit and its instruction came to. Assumes nothing.
-use mathlib.Core.Path.{_≡_, refl, sym, ap, _∙_}
+use mathlib.Core.Path.{_≡_, refl, sym, ap, subst, _∙_}
 use mathlib.Core.Bool.{Bool, true, false, cond}
 use mathlib.Core.List.{List}
 use Prim.Native.Nat.{ℕ, zero, suc, _+_, _<_, _≤_}
@@ -21,7 +21,7 @@ use Rattle.machine.proofs.Fitting.{fit-kept}
 use Rattle.machine.proofs.Skipping.{exec-total}
 use Rattle.interpreter.specs.Table.{pointersOf, opOf, tried, openFrom, exitOf, ends, Good}
 use Rattle.table.specs.Layout.{sizeOf}
-use Rattle.interpreter.specs.Run.{arrive, through, stepOf}
+use Rattle.interpreter.specs.Run.{arrive, exitFrom, through, stepOf}
 use Rattle.interpreter.specs.Outcome.{jobOf}
 use Rattle.interpreter.specs.Resume.{machineOf}
 use Rattle.interpreter.specs.Moving.{nextOf, After, Steps}
@@ -39,35 +39,35 @@ module _ (rows exits : List ℕ) (g : Given) (n : ℕ) (l : Slices) (at : State)
     pub moved : (next : Core)
         → Execs (exec g (sizeOf rows (at .region)) (opOf w)) l (atPointers (pointersOf w) (at .core)) l′ (Kept next)
         → targetOf w < n → total (at .core .reading .skips) ≤ at .steps
-        → Steps (through (jobOf rows exits g l) w (machineOf l at)) n l at l′
-        (To (record { region = targetOf w; steps = at .steps + 1; core = next }))
+        → Steps (through (jobOf rows exits g l) w (machineOf l at)) w n l at l′
+        (To (record { region = targetOf w; steps = at .steps + 1; core = next }) w)
     unfolding outOf Left arrive nextOf After
     moved next x t few =
-        record { is = ap (arrive w (machineOf l at)) (x .is); leaves = (record { stands = x .leaves; inside = t; few = omega (arith, one-more) }, refl) }
+        record { is = ap (arrive w (machineOf l at)) (x .is); leaves = (record { stands = x .leaves; inside = t; few = omega (arith, one-more) }, refl, refl) }
       where
         one-more : total (next .reading .skips) ≤ total (at .core .reading .skips) + 1
         one-more = exec-total g (sizeOf rows (at .region)) (opOf w) (storeOf l (atPointers (pointersOf w) (at .core))) (fit-kept (roomOf l) _ (sym (x .is)))
 
     pub halted : (s : Stop)
         → Execs (exec g (sizeOf rows (at .region)) (opOf w)) l (atPointers (pointersOf w) (at .core)) l′ (Stops s)
-        → Steps (through (jobOf rows exits g l) w (machineOf l at)) n l at l′ (Halted s)
+        → Steps (through (jobOf rows exits g l) w (machineOf l at)) w n l at l′ (Halted s)
     unfolding outOf Left arrive nextOf After
     halted s x = record { is = ap (arrive w (machineOf l at)) (x .is); leaves = x .leaves }
 
   pub needs-input : at .core .reading .awaiting ≡ true
-      → Steps (stepOf (jobOf rows exits g l) (machineOf l at)) n l at l (Halted NeedsInput)
+      → Steps (stepOf (jobOf rows exits g l) (machineOf l at)) (exitFrom (jobOf rows exits g l) (machineOf l at)) n l at l (Halted NeedsInput)
   unfolding nextOf After
   needs-input e = record { is = rw e refl; leaves = refl }
 
   module _ (e : at .core .reading .awaiting ≡ false) (w : ℕ) (hw : w ≡ exitOf exits (at .region) (at .core .pointers)) where
-    pub completed : ends w ≡ true → Steps (stepOf (jobOf rows exits g l) (machineOf l at)) n l at l (Halted Completed)
+    pub completed : ends w ≡ true → Steps (stepOf (jobOf rows exits g l) (machineOf l at)) (exitFrom (jobOf rows exits g l) (machineOf l at)) n l at l (Halted Completed)
     unfolding nextOf After
     completed z = record { is = rw (e, ← hw, z) refl; leaves = refl }
 
     pub taken : (l′ : Slices) (r : Moved) → ends w ≡ false
-        → Steps (through (jobOf rows exits g l) w (machineOf l at)) n l at l′ r
-        → Steps (stepOf (jobOf rows exits g l) (machineOf l at)) n l at l′ r
-    taken l′ r z x = record { is = x .is ∙ sym (rw (e, ← hw, z) refl); leaves = x .leaves }
+        → Steps (through (jobOf rows exits g l) w (machineOf l at)) w n l at l′ r
+        → Steps (stepOf (jobOf rows exits g l) (machineOf l at)) (exitFrom (jobOf rows exits g l) (machineOf l at)) n l at l′ r
+    taken l′ r z x = record { is = x .is ∙ sym (rw (e, ← hw, z) refl); leaves = subst (λ (y : ℕ). After y n l at l′ r) hw (x .leaves) }
 
 -- an exit to go through is not 0
 pub some-exit : (w : ℕ) → ends w ≡ false → 0 < w

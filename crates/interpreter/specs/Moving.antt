@@ -8,7 +8,7 @@ use Rattle.machine.specs.Held.{Slices}
 use Rattle.interpreter.specs.declared.State.{State}
 use Rattle.interpreter.specs.declared.stepping.Moved.{Moved}
 use Rattle.interpreter.specs.declared.stepping.Moved.the-variants.{To, Halted}
-use Rattle.interpreter.specs.Run.{Went, goes, halts, through, stepOf}
+use Rattle.interpreter.specs.Run.{Went, goes, halts, exitFrom, through, stepOf}
 use Rattle.interpreter.specs.Outcome.{slicesOf, placeOf, jobOf}
 use Rattle.interpreter.specs.Resume.{machineOf, Placed}
 
@@ -19,21 +19,21 @@ pub record Begun (l l′ : Slices) (from : State) : Type 0 where
 
 -- what a step came to, by what the slices hold after it
 unfoldable pub nextOf : Slices → Moved → Went
-nextOf l (To at) = goes (machineOf l at)
+nextOf l (To at by) = goes (machineOf l at)
 nextOf l (Halted s) = halts s
 
--- a step that can't be kept leaves everything as it was (rule 11.8)
-unfoldable pub After : ℕ → Slices → State → Slices → Moved → Type 0
-After n l at l′ (To at′) = Placed n l′ at′ × (at′ .steps ≡ at .steps + 1)
-After n l at l′ (Halted s) = l′ ≡ l
+-- a step by the exit w; one that can't be kept leaves everything as it was (rule 11.8)
+unfoldable pub After : ℕ → ℕ → Slices → State → Slices → Moved → Type 0
+After w n l at l′ (To at′ by) = Placed n l′ at′ × (at′ .steps ≡ at .steps + 1) × (by ≡ w)
+After w n l at l′ (Halted s) = l′ ≡ l
 
--- the place and the slices after a step are those of next
-pub record Steps (next : Went) (n : ℕ) (l : Slices) (at : State) (l′ : Slices) (r : Moved) : Type 0 where
+-- the place and the slices after a step by the exit w are those of next
+pub record Steps (next : Went) (w n : ℕ) (l : Slices) (at : State) (l′ : Slices) (r : Moved) : Type 0 where
   pub is : nextOf l′ r ≡ next
-  pub leaves : After n l at l′ r
+  pub leaves : After w n l at l′ r
 
 abbrev pub Gone : ℕ → List ℕ → List ℕ → Given → ℕ → Slices → State → Slices → Moved → Type 0
-Gone n rows exits g w l at l′ r = Steps (through (jobOf rows exits g l) w (machineOf l at)) n l at l′ r
+Gone n rows exits g w l at l′ r = Steps (through (jobOf rows exits g l) w (machineOf l at)) w n l at l′ r
 
 abbrev pub Stepped : ℕ → List ℕ → List ℕ → Given → Slices → State → Slices → Moved → Type 0
-Stepped n rows exits g l at l′ r = Steps (stepOf (jobOf rows exits g l) (machineOf l at)) n l at l′ r
+Stepped n rows exits g l at l′ r = let j = jobOf rows exits g l in Steps (stepOf j (machineOf l at)) (exitFrom j (machineOf l at)) n l at l′ r

@@ -9,7 +9,8 @@ use machine::Core;
 use machine::Stop;
 pub use running::resume;
 pub use running::run;
-pub use running::run_counting;
+pub use running::run_history;
+pub use running::run_observed;
 pub use validity::WRONG_TABLE;
 pub use validity::valid;
 

@@ -8,7 +8,8 @@ ghost use Rattle.interpreter.specs.Table.{Good};
 ghost use Rattle.interpreter.specs.Resume.{Placed, Resumed, Started, Resumable};
 ghost use Rattle.interpreter.specs.Moving.{Begun};
 ghost use Rattle.interpreter.specs.Outcome.{Outcome};
-ghost use Rattle.interpreter.specs.Gains.{visited, CanCount, GainsFrom, GainsAll};
+ghost use Rattle.interpreter.specs.Recorded.{Recorded};
+ghost use Rattle.interpreter.specs.Observed.{visited, CanCount, keptAt, ObservedFrom, ObservedAll};
 use crate::Ended;
 use crate::Ran;
 use crate::State;
@@ -39,9 +40,19 @@ fn count_visit(visits: &mut [u64], region: u32)
     }
 }
 
-// Steps from a place until a stop; each that is taken is a visit of the region that it reaches. This is the one loop of every
-// run: with a second one a step would be a call of its own, and take three times as long.
-fn resume_counting(
+// The exit of the step after so many, where there is a cell for it.
+fn keep_exit(taken: &mut [u32], made: u64, exit: u32)
+    ensures { λ _. ⌜ now (taken .exit) ≡ keptAt made exit (now (taken .entry)) ⌝ }
+{
+    let cell = made as usize;
+    if cell < taken.len() {
+        taken[cell] = exit;
+    }
+}
+
+// Steps from a place until a stop; each that is taken is a visit of the region that it reaches, and its exit is kept. This is the one
+// loop of every run: with a second one a step would be a call of its own, and take three times as long.
+fn resume_observed(
     n: usize,
     rows: &[u32],
     exits: &[u32],
@@ -51,6 +62,7 @@ fn resume_counting(
     kinds: &mut [u8],
     values: &mut [i64],
     visits: &mut [u64],
+    taken: &mut [u32],
     from: State,
 ) -> Ended
     requires { ⌜ Good n (now rows) (now exits) ⌝ }
@@ -58,13 +70,15 @@ fn resume_counting(
     requires { ⌜ JudgedIn (given terms (now input)) (from .core .reading) ⌝ }
     requires { ⌜ CanCount n (now visits) (terms .limit - from .steps) ⌝ }
     ensures { λ r. ⌜ Resumed n (now (rows .entry)) (now (exits .entry)) (given terms (now (input .entry))) (slices (now (stack .entry)) (now (kinds .entry)) (now (values .entry))) from (slices (now (stack .exit)) (now (kinds .exit)) (now (values .exit))) r ⌝ }
-    ensures { λ _. ⌜ GainsFrom (now (rows .entry)) (now (exits .entry)) (given terms (now (input .entry))) (slices (now (stack .entry)) (now (kinds .entry)) (now (values .entry))) from (now (visits .entry)) (now (visits .exit)) ⌝ }
+    ensures { λ _. ⌜ ObservedFrom (now (rows .entry)) (now (exits .entry)) (given terms (now (input .entry))) (slices (now (stack .entry)) (now (kinds .entry)) (now (values .entry))) from (now (visits .entry)) (now (visits .exit)) (now (taken .entry)) (now (taken .exit)) ⌝ }
 {
+    let begun = from.steps;
     let mut at = from;
     while at.steps < terms.limit {
         match step(n, rows, exits, terms, input, stack, kinds, values, at) {
-            Moved::To(next) => {
+            Moved::To { next, by } => {
                 count_visit(visits, next.region);
+                keep_exit(taken, at.steps - begun, by);
                 at = next;
             }
             Moved::Halted(stop) => {
@@ -96,7 +110,8 @@ pub fn resume(
     ensures { λ r. ⌜ Resumed n (now (rows .entry)) (now (exits .entry)) (given terms (now (input .entry))) (slices (now (stack .entry)) (now (kinds .entry)) (now (values .entry))) from (slices (now (stack .exit)) (now (kinds .exit)) (now (values .exit))) r ⌝ }
 {
     let mut uncounted = [0u64; 0];
-    resume_counting(
+    let mut unkept = [0u32; 0];
+    resume_observed(
         n,
         rows,
         exits,
@@ -106,6 +121,7 @@ pub fn resume(
         kinds,
         values,
         &mut uncounted,
+        &mut unkept,
         from,
     )
 }
@@ -141,8 +157,8 @@ fn begin(stack: &mut [i64], kinds: &mut [u8], values: &mut [i64]) -> State
     }
 }
 
-// From the start until a stop. The start itself is no visit here; a run whose visits nobody counts is lent no cells.
-pub fn run_counting(
+// From the start until a stop. The start itself is no visit here; a run that nobody observes is lent no cells.
+pub fn run_observed(
     n: usize,
     rows: &[u32],
     exits: &[u32],
@@ -152,14 +168,15 @@ pub fn run_counting(
     kinds: &mut [u8],
     values: &mut [i64],
     visits: &mut [u64],
+    taken: &mut [u32],
 ) -> Ended
     requires { ⌜ Good n (now rows) (now exits) ⌝ }
     requires { ⌜ CanCount n (now visits) (terms .limit) ⌝ }
     ensures { λ r. ⌜ Started n (now (rows .entry)) (now (exits .entry)) (given terms (now (input .entry))) (slices (now (stack .entry)) (now (kinds .entry)) (now (values .entry))) (slices (now (stack .exit)) (now (kinds .exit)) (now (values .exit))) r ⌝ }
-    ensures { λ _. ⌜ GainsAll (now (rows .entry)) (now (exits .entry)) (given terms (now (input .entry))) (slices (now (stack .entry)) (now (kinds .entry)) (now (values .entry))) (now (visits .entry)) (now (visits .exit)) ⌝ }
+    ensures { λ _. ⌜ ObservedAll (now (rows .entry)) (now (exits .entry)) (given terms (now (input .entry))) (slices (now (stack .entry)) (now (kinds .entry)) (now (values .entry))) (now (visits .entry)) (now (visits .exit)) (now (taken .entry)) (now (taken .exit)) ⌝ }
 {
     let from = begin(stack, kinds, values);
-    resume_counting(
+    resume_observed(
         n,
         rows,
         exits,
@@ -169,12 +186,14 @@ pub fn run_counting(
         kinds,
         values,
         visits,
+        taken,
         from,
     )
 }
 
-// The run of any table, with the edition by its number: refusal 15, refusal 10, or where it stopped.
-pub fn run(
+// The run of any table, with the edition by its number: refusal 15, refusal 10, or where it stopped, and in `taken` the exit of each step,
+// as far as there are cells.
+pub fn run_history(
     n: usize,
     rows: &[u32],
     exits: &[u32],
@@ -185,8 +204,9 @@ pub fn run(
     stack: &mut [i64],
     kinds: &mut [u8],
     values: &mut [i64],
+    taken: &mut [u32],
 ) -> Ran
-    ensures { λ r. ⌜ Outcome n (now (rows .entry)) (now (exits .entry)) (asks edition limit «abstract_mode» (now (input .entry))) (slices (now (stack .entry)) (now (kinds .entry)) (now (values .entry))) r (slices (now (stack .exit)) (now (kinds .exit)) (now (values .exit))) ⌝ }
+    ensures { λ r. ⌜ Recorded n (now (rows .entry)) (now (exits .entry)) (asks edition limit «abstract_mode» (now (input .entry))) (slices (now (stack .entry)) (now (kinds .entry)) (now (values .entry))) (now (taken .entry)) r (slices (now (stack .exit)) (now (kinds .exit)) (now (values .exit))) (now (taken .exit)) ⌝ }
     ensures { λ r. ⌜ Resumable n (now (rows .entry)) (now (exits .entry)) (asks edition limit «abstract_mode» (now (input .entry))) (slices (now (stack .entry)) (now (kinds .entry)) (now (values .entry))) r (slices (now (stack .exit)) (now (kinds .exit)) (now (values .exit))) ⌝ }
 {
     if unknown_edition(edition) {
@@ -203,7 +223,7 @@ pub fn run(
         abstract_mode,
     };
     let mut uncounted = [0u64; 0];
-    let ended = run_counting(
+    let ended = run_observed(
         n,
         rows,
         exits,
@@ -213,6 +233,39 @@ pub fn run(
         kinds,
         values,
         &mut uncounted,
+        taken,
     );
     Ran::Finished(ended)
+}
+
+// The same with no exit kept.
+pub fn run(
+    n: usize,
+    rows: &[u32],
+    exits: &[u32],
+    edition: u32,
+    limit: u64,
+    abstract_mode: bool,
+    input: &[u8],
+    stack: &mut [i64],
+    kinds: &mut [u8],
+    values: &mut [i64],
+) -> Ran
+    ensures { λ r. ⌜ Outcome n (now (rows .entry)) (now (exits .entry)) (asks edition limit «abstract_mode» (now (input .entry))) (slices (now (stack .entry)) (now (kinds .entry)) (now (values .entry))) r (slices (now (stack .exit)) (now (kinds .exit)) (now (values .exit))) ⌝ }
+    ensures { λ r. ⌜ Resumable n (now (rows .entry)) (now (exits .entry)) (asks edition limit «abstract_mode» (now (input .entry))) (slices (now (stack .entry)) (now (kinds .entry)) (now (values .entry))) r (slices (now (stack .exit)) (now (kinds .exit)) (now (values .exit))) ⌝ }
+{
+    let mut unkept = [0u32; 0];
+    run_history(
+        n,
+        rows,
+        exits,
+        edition,
+        limit,
+        abstract_mode,
+        input,
+        stack,
+        kinds,
+        values,
+        &mut unkept,
+    )
 }

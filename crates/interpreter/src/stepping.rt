@@ -24,9 +24,9 @@ use table::row_cell;
 use table::state_of;
 use table::target_of;
 
-// What a step comes to.
+// What a step comes to: the place that it reaches, and the exit by which it does.
 pub enum Moved {
-    To(State),
+    To { next: State, by: u32 },
     Halted(Stop),
 }
 
@@ -84,11 +84,14 @@ fn go_through(
         values,
         core.at_pointers(p),
     ) {
-        Done::Kept(next) => Moved::To(State {
-            region: target,
-            steps: at.steps + 1,
-            core: next,
-        }),
+        Done::Kept(next) => Moved::To {
+            next: State {
+                region: target,
+                steps: at.steps + 1,
+                core: next,
+            },
+            by: w,
+        },
         Done::Stops(stop) => Moved::Halted(stop),
     }
 }

@@ -2,16 +2,17 @@
 -- the picture.
 --     picture-follows    of a call of `run`
 --     picture-history    the exits that it takes, read as moves, are those of the picture, and so are the regions that it enters
+--     picture-moves      and those that `run_history` keeps are the moves, as far as there are cells
 --     picture-visits     and what `run_visits` counts is how often the moves enter each region
 --     picture-resumed    of a call of `run` that came to MaxSteps, and a call of `resume` to a larger limit
 -- Assumes nothing.
 use mathlib.Core.Path.{_≡_, refl, sym, ap, _∙_}
 use mathlib.Core.Bool.{true, false, true≢false}
 use mathlib.Core.List.{List, [], _∷_}
-use Prim.Native.Nat.{ℕ, suc, _<_, _≤_}
+use Prim.Native.Nat.{ℕ, suc, _-_, _<_, _≤_}
 use native.Mathlib.Omega.{arith}
 use borrow.Author.Tests.{le-ltb, lt-leb, eq-eqb, ne-eqb}
-use lib.ListN.{length, getD, take, length-take}
+use lib.ListN.{length, getD, take, drop, length-take}
 use lib.Seq.{getD-take}
 use Rattle.base.specs.declared.edition.Edition.{Edition}
 use Rattle.base.specs.Counting.{count}
@@ -45,10 +46,12 @@ use Rattle.interpreter.specs.declared.Ran.the-variants.{Finished}
 use Rattle.interpreter.specs.Table.{wrongMark, wrongExit, wrongExits, validOf}
 use Rattle.interpreter.specs.Outcome.{Outcome, endedOf, slicesOf, jobOf, endOf}
 use Rattle.interpreter.specs.History.{History, regionsOf}
+use Rattle.interpreter.specs.Recorded.{takenOf, Recorded}
 use Rattle.interpreter.specs.Resume.{Started, Resumed}
 use Rattle.interpreter.proofs.ValidLaws.{any-nowhere}
-use Rattle.interpreter.proofs.Answering.{answer-right, finishes}
+use Rattle.interpreter.proofs.Answering.{answer-right, finishes, recorded}
 use Rattle.interpreter.proofs.Settled.{settled}
+use Rattle.interpreter.proofs.Observing.{taken-front}
 use Rattle.interpreter.proofs.Resuming.{resume-run}
 use Rattle.visits.specs.declared.Visited.the-variants as Visited
 use Rattle.visits.specs.Visits.{unvisitedOf}
@@ -56,7 +59,7 @@ use Rattle.visits.specs.Outcome as visiting
 use Rattle.visits.proofs.Answering.{finished}
 use Rattle.visits.proofs.Only.{not-refused}
 use Rattle.piet.proofs.Bridge.{Tabled}
-use Rattle.piet.proofs.Following.{onto-length, onto-entered, history-walks, stands-first, follows}
+use Rattle.piet.proofs.Following.{onto-length, onto-entered, onto-first, history-walks, stands-first, follows}
 use Rattle.piet.proofs.FollowsOnly.{walk-only}
 
 mark-small : {A : Type 0} {x : ℕ} → Marks A x → x ≤ 1
@@ -177,6 +180,27 @@ module _ {p : Picture} {map rows exits work map′ rows′ exits′ work′ : Li
       let w = history-walks (T .sound) g (T .tabled) (roomOf l) s (h .passes) .walk in
       let same = walk-only (T .sound) (T .tabled .map-long) g (roomOf l) (F .walk) w (omega (arith, F .counted, h .counted, onto-length 0 (h .exits) [])) in
       (same .0, ap enteredBy (same .0) ∙ onto-entered 0 (h .exits) [])
+
+  -- What a run that is recorded keeps: the exits in the cells, read as moves, are the moves, but for the latest where there are fewer cells
+  pub picture-moves : (l : Slices) (taken : List ℕ) {r : Ran} {l′ : Slices} {taken′ : List ℕ} → Recorded n rows′ exits′ a l taken r l′ taken′
+      → (e : End) × (r ≡ Finished (endedOf e)) × (F : Follows p (take (codels p) map′) (givenOf a) (roomOf l) e)
+      × (onto 0 (take (e .at .steps) taken′) [] ≡ drop (e .at .steps - length taken) (F .history))
+  picture-moves l taken {taken′ = taken′} q =
+      let f = follows (T .sound) (givenOf a) (T .tabled) (roomOf l) (T .begins) in
+      let done = answer-right n rows′ exits′ a l (T .named) (T .valid) in
+      let d = finishes n rows′ exits′ a l (q .run) done in
+      let e = endOf rows′ exits′ (givenOf a) l in
+      let ws = q .history .exits in
+      let steps : e .at .steps ≡ length ws = omega (arith, q .history .counted) in
+      let held = recorded n rows′ exits′ a l taken q done in
+      let front : take (e .at .steps) taken′ ≡ take (length taken) ws = rw (steps, held) (taken-front taken ws) in (
+        e,
+        d .0,
+        f .0,
+        ap (λ (x : List ℕ). onto 0 x []) front
+            ∙ onto-first 0 ws (length taken) []
+            ∙ rw (steps, picture-history l (q .history) (f .0) .0) refl,
+      )
 
   -- The same of a run whose visits were counted: they are how often the moves enter each region
   pub picture-visits : (l : visiting.Lends) {e : Ended} {unvisited : ℕ} {l′ : visiting.Lends}

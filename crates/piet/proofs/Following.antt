@@ -4,15 +4,18 @@
 --     follows          and so does the run from the start
 --     follows-few      no more number lines are skipped than moves are made
 --     onto-length, onto-entered    exits, read as moves, are as many, and enter the regions that the exits lead to
+--     onto-first       the first of them are all but the latest moves
 -- Assumes nothing.
 use mathlib.Core.Path.{_≡_, refl, sym, ap, subst, _∙_}
 use mathlib.Core.Bool.{true, false, true≢false}
 use mathlib.Core.List.{List, [], _∷_, _++_, map, append-nil, append-assoc, reverse-cons}
 use mathlib.Core.Logic.{_↔_, _⊎_, inl, inr}
-use Prim.Native.Nat.{ℕ, _+_, _<_, _≤_}
+use Prim.Native.Nat.{ℕ, zero, suc, _+_, _-_, _<_, _≤_}
+use native.Mathlib.Numerals.{add-one}
 use native.Mathlib.Omega.{arith}
 use native.Mathlib.Nat.{zero-div, zero-mod, zero-mul, zero-add}
-use lib.ListN.{length, getD}
+use lib.ListN.{length, getD, take, drop}
+use lib.Seq.{take-nil, drop-drop}
 use Rattle.base.specs.declared.edition.Edition.{Edition}
 use Rattle.flow.specs.declared.PointerState.{PointerState}
 use Rattle.flow.specs.Pointer.{Valid}
@@ -101,6 +104,35 @@ onto-entered r (x ∷ exits) history =
     onto-entered (targetOf x) exits (moveBy r x ∷ history)
     ∙ ap (λ (l : List ℕ). 0 ∷ l ++ map targetOf exits) (reverse-cons (targetOf x) (map (λ (v : Move). v .to) history))
     ∙ append-assoc (enteredBy history) (targetOf x ∷ []) (map targetOf exits)
+
+-- what stood there before them stands there still
+onto-onto : (r : ℕ) (exits : List ℕ) (history : List Move) → drop (length exits) (onto r exits history) ≡ history
+unfolding onto
+onto-onto r [] history = refl
+onto-onto r (x ∷ exits) history =
+    let all = onto (targetOf x) exits (moveBy r x ∷ history) in
+    ap (λ (k : ℕ). drop k all) (sym (add-one (length exits)))
+    ∙ sym (drop-drop 1 (length exits) all)
+    ∙ ap (drop 1) (onto-onto (targetOf x) exits (moveBy r x ∷ history))
+
+-- the first k exits are all but the latest moves
+pub onto-first : (r : ℕ) (exits : List ℕ) (k : ℕ) (history : List Move) → onto r (take k exits) history ≡ drop (length exits - k) (onto r exits history)
+unfolding onto
+onto-first r [] k history = ap (λ (x : List ℕ). onto r x history) (take-nil k) ∙ ap (λ (i : ℕ). drop i history) (none k)
+  where
+    none : (k : ℕ) → 0 ≡ 0 - k
+    none k = omega arith
+onto-first r (x ∷ exits) zero history =
+    sym (onto-onto r (x ∷ exits) history) ∙ ap (λ (i : ℕ). drop i (onto r (x ∷ exits) history)) (whole (length (x ∷ exits)))
+  where
+    whole : (n : ℕ) → n ≡ n - 0
+    whole n = omega arith
+onto-first r (x ∷ exits) (suc k) history =
+    onto-first (targetOf x) exits k (moveBy r x ∷ history)
+    ∙ ap (λ (i : ℕ). drop i (onto (targetOf x) exits (moveBy r x ∷ history))) (less (length exits))
+  where
+    less : (n : ℕ) → n - k ≡ suc n - suc k
+    less n = omega arith
 
 module _ {p : Picture} {map rows exits : List ℕ} {n : ℕ} (S : Sound p) (g : Given) (B : Tabled (g .terms .edition) p map rows exits n) (room : RunRoom) where
   abbrev edition : Edition

@@ -12,5 +12,6 @@ pub use interpreter::Forever;
 pub use interpreter::Ran;
 pub use interpreter::determine_runs_forever;
 pub use interpreter::run;
+pub use interpreter::run_history;
 pub use visits::Visited;
 pub use visits::run_visits;

@@ -1,11 +1,11 @@
 -- Two calls from C, one after the other, from what the two promise; nothing of how either is met is used. Demand 3: a run of
--- what was built from a picture is not refused, and it follows the picture; rule 17.2: what is counted of it are the regions that its moves enter. Rule 15.6: a P6 file that was
--- written is read back the same. Assumes nothing.
+-- what was built from a picture is not refused, and it follows the picture; rule 18.1: the exits that are kept of it are its moves; rule 17.2: what is
+-- counted of it are the regions that its moves enter. Rule 15.6: a P6 file that was written is read back the same. Assumes nothing.
 use mathlib.Core.Path.{_≡_, sym, ap, ap₂, subst, _∙_}
 use mathlib.Core.List.{List, [], _∷_, _++_}
-use Prim.Native.Nat.{ℕ, _<_, _≤_}
+use Prim.Native.Nat.{ℕ, _-_, _<_, _≤_}
 use native.Mathlib.Omega.{arith}
-use lib.ListN.{length, getD, take}
+use lib.ListN.{length, getD, take, drop}
 use Rattle.base.specs.Counting.{count}
 use Rattle.base.specs.Lent.{lent}
 use Rattle.base.specs.Numbers.{Numbers, numberOf, valuesOf}
@@ -24,14 +24,15 @@ use Rattle.visits.specs.Visits.{unvisitedOf}
 use Rattle.visits.specs.Outcome as visiting
 use Rattle.visits.proofs.Only.{visits-finished}
 use Rattle.piet.specs.Follows.{enteredBy, Follows}
-use Rattle.piet.proofs.Built.{picture-follows, picture-visits}
+use Rattle.piet.specs.Decoded.{onto}
+use Rattle.piet.proofs.Built.{picture-follows, picture-moves, picture-visits}
 use Rattle.netpbm.specs.declared.writing.Written.{Written}
 use Rattle.netpbm.specs.declared.writing.Written.the-variants.{Done as Wrote, Size as WrongSize, Bytes as WrongBytes, Room as NoRoom}
 use Rattle.netpbm.specs.Reads as reading
 use Rattle.netpbm.specs.Writes as writing
 use Rattle.netpbm.proofs.RoundTrip.{round-trip}
 use Rattle.piet_c.specs.Exported.{Exported, short, made}
-use Rattle.piet_c.specs.Calls.{BuildCall, TableRoom, RunCall, VisitsCall, ReadP6Call, WriteP6Call}
+use Rattle.piet_c.specs.Calls.{BuildCall, TableRoom, RunCall, Recording, HistoryCall, VisitsCall, ReadP6Call, WriteP6Call}
 
 -- where 0 was returned the call was made, and its answer's number is 0
 done-made : {need : ℕ} {S A : Type 0} {numbered : A → Numbers} {Leaves : A → S → Type 0} {before after : S} {a a′ : List ℕ}
@@ -73,6 +74,19 @@ c-picture-follows q o l {b} h (made k i (x, e, c) z w) =
     let t = picture-follows q (table o) l c in
     let f = sym e ∙ ap running.numbered (t .1) in
     (t .0, z ∙ ap numberOf f, w ∙ ap (λ (x : Numbers). lent (valuesOf x) b) f, t .2, t .3, t .4)
+
+-- the same of `piet_history`: the exits in the cells, read as moves, are the moves, but for the latest where there are fewer cells
+pub c-picture-moves : (q : Asks) {p : Picture} {s s′ : TableRoom} {a a′ : List ℕ} → Exported 2 (BuildCall (q .edition) p s) s a 0 s′ a′
+    → (l : Recording) {b b′ : List ℕ} {r : ℕ} {l′ : Recording} → resultCells ≤ length b
+    → Exported resultCells (HistoryCall (getD a′ 0 0) (s′ .rows) (s′ .exits) q l) l b r l′ b′
+    → (e : End) × (r ≡ 0) × (b′ ≡ lent (resultOf (endedOf e)) b) × (F : Follows p (take (codels p) (s′ .map)) (givenOf q) (roomOf (l .run)) e)
+    × (onto 0 (take (e .at .steps) (l′ .taken)) [] ≡ drop (e .at .steps - length (l .taken)) (F .history))
+unfolding running.numbered
+c-picture-moves q o l h (short i e f w) = absurd (omega arith)
+c-picture-moves q o l {b} h (made k i (x, e, c) z w) =
+    let t = picture-moves q (table o) (l .run) (l .taken) c in
+    let f = sym e ∙ ap running.numbered (t .1) in
+    (t .0, z ∙ ap numberOf f, w ∙ ap (λ (x : Numbers). lent (valuesOf x) b) f, t .2, t .3)
 
 -- the same of `piet_visits`, where it returned 0: what it counted is how often the moves enter each region
 pub c-picture-visits : (q : Asks) {p : Picture} {s s′ : TableRoom} {a a′ : List ℕ} → Exported 2 (BuildCall (q .edition) p s) s a 0 s′ a′

@@ -8,11 +8,11 @@ use Rattle.base.specs.Numbers.{Numbers, numberOf, valuesOf}
 use Rattle.machine.specs.Machine.{Asks}
 use Rattle.machine.specs.Held.{Slices}
 use Rattle.interpreter.specs.Outcome as running
-use Rattle.interpreter.proofs.Only.{run-only}
+use Rattle.interpreter.proofs.Only.{run-only, recorded-only}
 use Rattle.visits.specs.Outcome as visiting
 use Rattle.visits.proofs.Only.{visits-only}
 use Rattle.piet_c.specs.Exported.{Exported, short, made}
-use Rattle.piet_c.specs.Calls.{ClassifyCall, LabelCall, BuildCall, TableRoom, RunCall, VisitsCall, ForeverCall, pictureCells, padded, PictureCall, ReadP6Call, WriteP6Call}
+use Rattle.piet_c.specs.Calls.{ClassifyCall, LabelCall, BuildCall, TableRoom, RunCall, Recording, HistoryCall, VisitsCall, ForeverCall, pictureCells, padded, PictureCall, ReadP6Call, WriteP6Call}
 use Rattle.picture.specs.Picture.{Picture}
 use Rattle.colour.proofs.Only.{classify-only, label-only}
 use Rattle.colour.specs.Classify as classifying
@@ -66,6 +66,11 @@ pub runs : (k : ℕ) (rows exits : List ℕ) (a : Asks) (l : Slices) → Settles
 runs k rows exits a l n n′ s s′ (r, e, o) (r′, e′, o′) =
     let d = run-only k rows exits a l o o′ in
     (sym e ∙ ap running.numbered (d .0) ∙ e′, d .1)
+
+pub histories : (k : ℕ) (rows exits : List ℕ) (a : Asks) (l : Recording) → Settles (HistoryCall k rows exits a l)
+histories k rows exits a l n n′ s s′ (r, e, o) (r′, e′, o′) =
+    let d = recorded-only k rows exits a (l .run) (l .taken) o o′ in
+    (sym e ∙ ap running.numbered (d .0) ∙ e′, λ i. record { run = d .1 i; taken = d .2 i })
 
 pub visits : (k : ℕ) (rows exits : List ℕ) (a : Asks) (l : visiting.Lends) → Settles (VisitsCall k rows exits a l)
 visits k rows exits a l n n′ s s′ (r, e, o) (r′, e′, o′) =

@@ -1,8 +1,9 @@
--- What each call makes: the layers' own outcomes, by their numbers (rules 8.5, 12.2, 15.4, 15.5, 17.4). Assumes nothing.
+-- What each call makes: the layers' own outcomes, by their numbers (rules 8.5, 12.2, 15.4, 15.5, 17.4, 18.1). Assumes nothing.
 use mathlib.Core.Path.{_≡_}
 use mathlib.Core.List.{List, _++_}
 use Prim.Native.Nat.{ℕ, _+_, _-_}
 use lib.ListN.{length, replicate}
+use lib.IntN.{ℤ}
 use Rattle.base.specs.Numbers.{Numbers, numbers}
 use Rattle.picture.specs.Picture.{Picture}
 use Rattle.colour.specs.declared.classify.Classified.{Classified}
@@ -12,10 +13,11 @@ use Rattle.colour.specs.Label as labelling
 use Rattle.cfg.specs.declared.building.Built.{Built}
 use Rattle.cfg.specs.Build as building
 use Rattle.machine.specs.Machine.{Asks}
-use Rattle.machine.specs.Held.{Slices}
+use Rattle.machine.specs.Held.{Slices, slices}
 use Rattle.interpreter.specs.declared.Ran.{Ran}
 use Rattle.interpreter.specs.declared.Forever.{Forever}
 use Rattle.interpreter.specs.Outcome as running
+use Rattle.interpreter.specs.Recorded.{Recorded}
 use Rattle.interpreter.specs.Forever as always
 use Rattle.visits.specs.declared.Visited.{Visited}
 use Rattle.visits.specs.Outcome as visiting
@@ -51,6 +53,18 @@ BuildCall edition p s n s′ =
 
 abbrev pub RunCall : ℕ → List ℕ → List ℕ → Asks → Slices → Numbers → Slices → Type 0
 RunCall n rows exits a l k l′ = (r : Ran) × (running.numbered r ≡ k) × running.Outcome n rows exits a l r l′
+
+-- a run's slices, and one more for the exits
+pub record Recording : Type 0 where
+  pub run : Slices
+  pub taken : List ℕ
+
+abbrev pub recording : List ℤ → List ℕ → List ℤ → List ℕ → Recording
+recording stack kinds values taken = record { run = slices stack kinds values; taken = taken }
+
+-- a run's values
+abbrev pub HistoryCall : ℕ → List ℕ → List ℕ → Asks → Recording → Numbers → Recording → Type 0
+HistoryCall n rows exits a l k l′ = (r : Ran) × (running.numbered r ≡ k) × Recorded n rows exits a (l .run) (l .taken) r (l′ .run) (l′ .taken)
 
 -- one value more than a run's: the count of nodes never entered
 abbrev pub VisitsCall : ℕ → List ℕ → List ℕ → Asks → visiting.Lends → Numbers → visiting.Lends → Type 0

@@ -1,4 +1,4 @@
--- Inner: what the helpers of `put_result` promise of a word of which a bound is known. No public contract cites it.
+-- Inner: what writers promise of a word of which a bound is known. No entry point's contract cites it.
 -- Assumes nothing.
 use mathlib.Core.List.{List}
 use Prim.Native.Nat.{ℕ, _≤_}

@@ -39,7 +39,7 @@ pub struct Figures {
 }
 
 // A signed number in decimal.
-fn put_int(out: &mut [u8], at: usize, v: i64) -> usize
+pub fn put_int(out: &mut [u8], at: usize, v: i64) -> usize
     requires { ⌜ Room (now out) at (int v) ⌝ }
     ensures { λ r. ⌜ Put (now (out .entry)) at (int v) r (now (out .exit)) ⌝ }
 {
@@ -52,7 +52,7 @@ fn put_int(out: &mut [u8], at: usize, v: i64) -> usize
 }
 
 // A value of the stack after a space.
-fn put_value(out: &mut [u8], at: usize, v: i64) -> usize
+pub fn put_value(out: &mut [u8], at: usize, v: i64) -> usize
     requires { ⌜ at + 21 ≤ length (now out) ⌝ }
     ensures { λ r. ⌜ Wrote (now (out .entry)) at (value v) r (now (out .exit)) 21 ⌝ }
 {
@@ -72,7 +72,7 @@ fn put_letter(out: &mut [u8], at: usize, kind: u8) -> usize
 }
 
 // An output after a space: its kind's letter and its number.
-fn put_item(out: &mut [u8], at: usize, kind: u8, v: i64) -> usize
+pub fn put_item(out: &mut [u8], at: usize, kind: u8, v: i64) -> usize
     requires { ⌜ at + 22 ≤ length (now out) ⌝ }
     ensures { λ r. ⌜ Wrote (now (out .entry)) at (item kind v) r (now (out .exit)) 22 ⌝ }
 {
@@ -81,7 +81,7 @@ fn put_item(out: &mut [u8], at: usize, kind: u8, v: i64) -> usize
 }
 
 // The cells of a stack below a depth, the top first.
-fn put_values(out: &mut [u8], at: usize, stack: &[i64], depth: usize) -> usize
+pub fn put_values(out: &mut [u8], at: usize, stack: &[i64], depth: usize) -> usize
     requires { ⌜ (depth ≤ length (now stack)) × (at + 21 * depth ≤ length (now out)) ⌝ }
     ensures { λ r. ⌜ Wrote (now (out .entry)) at (values (stackOf (now (stack .entry)) depth)) r (now (out .exit)) (21 * depth) ⌝ }
 {
@@ -109,7 +109,7 @@ fn put_items(out: &mut [u8], at: usize, kinds: &[u8], numbers: &[i64], count: us
 }
 
 // A word and a number.
-fn put_count(out: &mut [u8], at: usize, word: &[u8], n: u64) -> usize
+pub fn put_count(out: &mut [u8], at: usize, word: &[u8], n: u64) -> usize
     requires { ⌜ at + (length (now word) + 20) ≤ length (now out) ⌝ }
     ensures { λ r. ⌜ Wrote (now (out .entry)) at (counted (now (word .entry)) n) r (now (out .exit)) (length (now (word .entry)) + 20) ⌝ }
 {
@@ -118,7 +118,7 @@ fn put_count(out: &mut [u8], at: usize, word: &[u8], n: u64) -> usize
 }
 
 // A line of a word and a number.
-fn put_line(out: &mut [u8], at: usize, word: &[u8], n: u64) -> usize
+pub fn put_line(out: &mut [u8], at: usize, word: &[u8], n: u64) -> usize
     requires { ⌜ at + (length (now word) + 21) ≤ length (now out) ⌝ }
     ensures { λ r. ⌜ Wrote (now (out .entry)) at (line (now (word .entry)) n) r (now (out .exit)) (length (now (word .entry)) + 21) ⌝ }
 {

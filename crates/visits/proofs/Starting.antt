@@ -16,7 +16,7 @@ use Rattle.machine.specs.Machine.{Given}
 use Rattle.machine.specs.Held.{Slices}
 use Rattle.interpreter.specs.Table.{Good}
 use Rattle.interpreter.specs.Outcome.{jobOf}
-use Rattle.interpreter.specs.Gains.{CanCount, GainsAll}
+use Rattle.interpreter.specs.Observed.{CanCount, ObservedAll}
 use Rattle.interpreter.proofs.Entering.{entered-below}
 use Rattle.visits.specs.Counted.{Counted}
 
@@ -80,9 +80,9 @@ module _ (n : ℕ) (v v₁ : List ℕ) (some : 0 < n) (long : n ≤ length v) (e
           let x = lent-past (counts n (0 ∷ w)) v 0 i (omega (arith, cells)) in
           omega (arith, f i (has i h), first-past i k, count-past i k b, x))
 
-  pub counted : {rows exits : List ℕ} (g : Given) (l : Slices) {v′ : List ℕ} → Good n rows exits → length v′ ≡ length v → GainsAll rows exits g l first v′
+  pub counted : {rows exits : List ℕ} (g : Given) (l : Slices) {v′ t t′ : List ℕ} → Good n rows exits → length v′ ≡ length v → ObservedAll rows exits g l first v′ t t′
       → Counted n (jobOf rows exits g l) v v′
-  counted {rows} {exits} g l {v′} G q c = record {
+  counted {rows} {exits} g l {v′} {t} G q c = record {
     history = c .history;
     cells =
         counted-all (map targetOf (c .history .exits)) v′ q

@@ -9,7 +9,7 @@ ghost use Rattle.interpreter.specs.Resume.{Started};
 ghost use Rattle.visits.specs.Counted.{Counted};
 use base::fill::fill_u64;
 use interpreter::Ended;
-use interpreter::run_counting;
+use interpreter::run_observed;
 use machine::Terms;
 
 // From the start until a stop, with a cell a region, whatever the cells held. The start is a visit of region 0.
@@ -31,5 +31,17 @@ pub fn count_visits(
 {
     fill_u64(visits, 0, n, 0);
     visits[0] = 1;
-    run_counting(n, rows, exits, terms, input, stack, kinds, values, visits)
+    let mut unkept = [0u32; 0];
+    run_observed(
+        n,
+        rows,
+        exits,
+        terms,
+        input,
+        stack,
+        kinds,
+        values,
+        visits,
+        &mut unkept,
+    )
 }

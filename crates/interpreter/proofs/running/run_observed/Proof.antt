@@ -1,5 +1,5 @@
--- `interpreter::running::run_counting` meets its contract. What is left to run from the start is the run, and what is counted from there is
--- counted from the start. Assumes nothing.
+-- `interpreter::running::run_observed` meets its contract. What is left to run from the start is the run, and what is observed from there is
+-- observed from the start. Assumes nothing.
 use mathlib.Core.Path.{subst}
 use Prim.Native.Nat.{ℕ, _-_, _≤_}
 use native.Mathlib.Omega.{arith}
@@ -11,16 +11,16 @@ use Rattle.machine.specs.Held.{Slices, slices}
 use Rattle.machine.proofs.Only.{AsLong}
 use Rattle.interpreter.specs.Resume.{Reaches}
 use Rattle.interpreter.proofs.Settled.{begun-placed, begun-judged, begun-run}
-use Rattle.interpreter.proofs.Tallying.{gains-begun}
-use Rattle.interpreter.proofs.running.run_counting.Statement.{statement}
-use Rattle.interpreter.proofs.running.run_counting.Tie as tie
+use Rattle.interpreter.proofs.Observing.{observed-begun}
+use Rattle.interpreter.proofs.running.run_observed.Statement.{statement}
+use Rattle.interpreter.proofs.running.run_observed.Tie as tie
 
 -- from where the slices are cleared back to the start; from the call back to there
 abbrev begin : tie.After-begin → tie.Start
-begin c = c .before .before .before .before .before .before .before .before .before
+begin c = c .before .before .before .before .before .before .before .before .before .before
 
-abbrev begun : tie.After-resume-counting-arg4 → tie.After-begin
-begun c = c .before .before .before .before .before .before .before .before
+abbrev begun : tie.After-resume-observed-arg5 → tie.After-begin
+begun c = c .before .before .before .before .before .before .before .before .before
 
 abbrev what : tie.Start → Given
 what s = given (s .args .terms) (now (s .args .input))
@@ -35,8 +35,8 @@ long c = record { stack = c .begin .kept .0; kinds = c .begin .kept .1 .0; value
 begin-requires : tie.Need-begin-requires
 begin-requires c κs = search needs
 
-resume-counting-requires : tie.Need-resume-counting-requires
-resume-counting-requires c κs =
+resume-observed-requires : tie.Need-resume-observed-requires
+resume-observed-requires c κs =
     let b = begun c .begin in
     let s = begin (begun c) in
     let limit = s .args .terms .limit in (
@@ -62,27 +62,31 @@ same-length-3 c = search needs
 same-length-4 : tie.Need-same-length-4
 same-length-4 c = search needs
 
+same-length-5 : tie.Need-same-length-5
+same-length-5 c = search needs
+
 returns : tie.Need-returns
 returns c =
-    let k = c .before .before .before .before .before .before in
-    let r = k .resume-counting in
+    let k = c .before .before .before .before .before .before .before .before in
+    let r = k .resume-observed in
     let b = begun (k .before) in
     let s = begin b in
     let rows = now (s .args .rows) in
     let exits = now (s .args .exits) in
     let l′ = slices (r .last .1 .1 .1 .1 .1 .0) (r .last .1 .1 .1 .1 .1 .1 .0) (r .last .1 .1 .1 .1 .1 .1 .1 .0) in (
       subst (λ (e : End). Reaches (s .args .n) e l′ (r .result)) (begun-run (b .begin .ensures) rows exits (what s) (long b)) (r .ensures .0),
-      gains-begun rows exits (what s) (b .begin .ensures) (long b) (r .ensures .1),
+      observed-begun rows exits (what s) (b .begin .ensures) (long b) (r .ensures .1),
     )
 
-pub run-counting-spec : {M : Type 1} → statement M
-run-counting-spec =
+pub run-observed-spec : {M : Type 1} → statement M
+run-observed-spec =
     tie.close
     (tie.spec
     begin-requires
-    resume-counting-requires
+    resume-observed-requires
     same-length
     same-length-2
     same-length-3
     same-length-4
+    same-length-5
     returns)

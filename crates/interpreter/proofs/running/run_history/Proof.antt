@@ -1,6 +1,7 @@
--- `interpreter::running::run` meets its contract. What the slices hold at the end is what the definition says of every cell. Assumes nothing.
+-- `interpreter::running::run_history` meets its contract. What the slices hold at the end is what the definition says of every cell. Assumes nothing.
 use mathlib.Core.Path.{_≡_, refl, sym, subst, _∙_}
 use mathlib.Core.Bool.{true, false}
+use mathlib.Core.List.{[]}
 use native.Mathlib.Omega.{arith}
 use borrow.Author.Tests.{not-true, not-false}
 use borrow.Author.Needs.{needs}
@@ -15,25 +16,26 @@ use Rattle.machine.proofs.Only.{AsLong}
 use Rattle.interpreter.specs.Table.{validOf}
 use Rattle.interpreter.specs.Outcome.{endOf}
 use Rattle.interpreter.specs.Resume.{Started}
-use Rattle.interpreter.proofs.Answering.{answer-unknown, answer-wrong, answer-right, run-refuses, run-finishes}
+use Rattle.interpreter.specs.Observed.{ObservedAll}
+use Rattle.interpreter.proofs.Answering.{answer-unknown, answer-wrong, answer-right, run-finishes, record-refuses, record-finishes}
 use Rattle.interpreter.proofs.Settled.{settled, reached-judged}
 use Rattle.interpreter.proofs.ValidLaws.{good-of}
-use Rattle.interpreter.proofs.running.run.Statement.{statement}
-use Rattle.interpreter.proofs.running.run.Tie as tie
+use Rattle.interpreter.proofs.running.run_history.Statement.{statement}
+use Rattle.interpreter.proofs.running.run_history.Tie as tie
 
 -- from the test of the edition back to the start; from that of the table back to there; from the run's call back to it; from its
 -- answer back to the call
 abbrev begin : tie.After-unknown-edition → tie.Start
-begin c = c .before .before .before .before .before
+begin c = c .before .before .before .before .before .before
 
 abbrev known : tie.After-valid → tie.Else1
 known c = c .before .before
 
-abbrev passed : tie.After-uncounted → tie.Else2
-passed c = c .before .before .before .before
+abbrev passed : tie.After-run-observed-arg4 → tie.Else2
+passed c = c .before .before .before .before .before
 
-abbrev ended : tie.After-uncounted2 → tie.After-run-counting
-ended c = c .before .before .before .before .before
+abbrev ended : tie.After-slice-known4 → tie.After-run-observed
+ended c = c .before .before .before .before .before .before .before
 
 abbrev start : tie.After-valid → tie.Start
 start c = begin (known c .before)
@@ -62,7 +64,7 @@ returns c =
     let s = begin (c .before) in
     let a = s .args in
     let u = c .before .unknown-edition in (
-      run-refuses (a .n) (now (a .rows)) (now (a .exits)) (what s) (held s) 14
+      record-refuses (a .n) (now (a .rows)) (now (a .exits)) (what s) (held s) (now (a .taken)) 14
           (answer-unknown (a .n) (now (a .rows)) (now (a .exits)) (what s) (held s) (sym (u .ensures) ∙ c .if1 .taken)),
       tt,
     )
@@ -78,17 +80,17 @@ returns-2 c =
     let s = start (c .before) in
     let a = s .args in
     let v = c .before .valid in (
-      run-refuses (a .n) (now (a .rows)) (now (a .exits)) (what s) (held s) 9
+      record-refuses (a .n) (now (a .rows)) (now (a .exits)) (what s) (held s) (now (a .taken)) 9
           (answer-wrong (a .n) (now (a .rows)) (now (a .exits)) (what s) (held s) (named (known (c .before))) (sym (judged (c .before)) ∙ not-true (v .result) (c .if2 .taken))),
       tt,
     )
 
-slice-aggregate-run-counting : tie.Need-slice-aggregate-run-counting
-slice-aggregate-run-counting c = refl
+slice-aggregate-run-observed : tie.Need-slice-aggregate-run-observed
+slice-aggregate-run-observed c = refl
 
 -- there are no cells to count in
-run-counting-requires : tie.Need-run-counting-requires
-run-counting-requires c κs =
+run-observed-requires : tie.Need-run-observed-requires
+run-observed-requires c κs =
     let a = start (passed c .before) .args in
     (good-of (editionOf (a .edition)) (a .n) (now (a .rows)) (now (a .exits)) (right (passed c)), λ r h k. absurd (omega arith))
 
@@ -101,9 +103,12 @@ same-length-2 c = search needs
 same-length-3 : tie.Need-same-length-3
 same-length-3 c = search needs
 
+same-length-4 : tie.Need-same-length-4
+same-length-4 c = search needs
+
 returns-3 : tie.Need-returns-3
 returns-3 c =
-    let r = ended c .run-counting in
+    let r = ended c .run-observed in
     let p = passed (ended c .before) in
     let s = start (p .before) in
     let n = s .args .n in
@@ -111,21 +116,26 @@ returns-3 c =
     let exits = now (s .args .exits) in
     let l′ = slices (r .last .1 .1 .1 .1 .1 .0) (r .last .1 .1 .1 .1 .1 .1 .0) (r .last .1 .1 .1 .1 .1 .1 .1 .0) in
     let long : AsLong l′ (held s) = record { stack = r .kept .1 .1 .1 .1 .1 .0; kinds = r .kept .1 .1 .1 .1 .1 .1 .0; values = r .kept .1 .1 .1 .1 .1 .1 .1 .0 } in
-    let ran : Started n rows exits (givenOf (what s)) (held s) l′ (r .result) =
+    let taken = now (s .args .taken) in
+    let taken′ = r .last .1 .1 .1 .1 .1 .1 .1 .1 .1 .0 in
+    let ran : Started n rows exits (givenOf (what s)) (held s) l′ (r .result) × ObservedAll rows exits (givenOf (what s)) (held s) [] (r .last .1 .1 .1 .1 .1 .1 .1 .1 .0) taken taken′ =
     subst
-    (λ (e : Edition). Started n rows exits (given (record { edition = e; limit = s .args .limit; «abstract_mode» = s .args .abstract-mode }) (now (s .args .input))) (held s) l′ (r .result))
-    (p .before .before .edition-of .ensures) (r .ensures .0) in
-    let e = settled n (endOf rows exits (givenOf (what s)) (held s)) l′ (held s) (r .result) long ran in (
-      run-finishes n rows exits (what s) (held s) (answer-right n rows exits (what s) (held s) (named (known (p .before))) (right p)) (e .0) (e .1),
+    (λ (e : Edition).
+    let g = given (record { edition = e; limit = s .args .limit; «abstract_mode» = s .args .abstract-mode }) (now (s .args .input)) in
+    Started n rows exits g (held s) l′ (r .result) × ObservedAll rows exits g (held s) [] (r .last .1 .1 .1 .1 .1 .1 .1 .1 .0) taken taken′)
+    (p .before .before .edition-of .ensures) (r .ensures) in
+    let e = settled n (endOf rows exits (givenOf (what s)) (held s)) l′ (held s) (r .result) long (ran .0) in
+    let done = answer-right n rows exits (what s) (held s) (named (known (p .before))) (right p) in (
+      record-finishes n rows exits (what s) (held s) taken done (run-finishes n rows exits (what s) (held s) done (e .0) (e .1)) (ran .1 .history) (ran .1 .exits),
       (
         good-of (editionOf (s .args .edition)) n rows exits (right p),
-        ran,
-        reached-judged n rows exits (givenOf (what s)) (held s) l′ (s .args .limit) place.start (r .result) ran (judged-start (editionOf (s .args .edition)) (now (s .args .input))),
+        ran .0,
+        reached-judged n rows exits (givenOf (what s)) (held s) l′ (s .args .limit) place.start (r .result) (ran .0) (judged-start (editionOf (s .args .edition)) (now (s .args .input))),
       ),
     )
 
-pub run-spec : {M : Type 1} → statement M
-run-spec =
+pub run-history-spec : {M : Type 1} → statement M
+run-history-spec =
     tie.close
     (tie.spec
     unknown-edition-requires
@@ -133,9 +143,10 @@ run-spec =
     edition-of-requires
     valid-requires
     returns-2
-    slice-aggregate-run-counting
-    run-counting-requires
+    slice-aggregate-run-observed
+    run-observed-requires
     same-length
     same-length-2
     same-length-3
+    same-length-4
     returns-3)

@@ -1,5 +1,5 @@
--- Inner: cells that are lent beside a run, for all regions or for the first of them, and grow by the regions that its steps reach. Assumes
--- nothing.
+-- Inner: what is lent beside a run to observe it: cells, for all regions or for the first of them, that grow by the regions that its steps
+-- reach; and cells, as many as may be, for the exits that they take. Assumes nothing.
 use mathlib.Core.Path.{_≡_}
 use mathlib.Core.Bool.{cond}
 use mathlib.Core.List.{List, map}
@@ -15,6 +15,7 @@ use Rattle.interpreter.specs.declared.State.{State}
 use Rattle.interpreter.specs.Run.{Job, runOf, ran}
 use Rattle.interpreter.specs.History.{History}
 use Rattle.interpreter.specs.Outcome.{jobOf}
+use Rattle.interpreter.specs.Recorded.{takenOf}
 use Rattle.interpreter.specs.Resume.{machineOf}
 
 -- one more for a region, where it has a cell
@@ -25,20 +26,26 @@ visited r visits = cond (ltb r (length visits)) (set visits r (getD visits r 0 +
 abbrev pub CanCount : ℕ → List ℕ → ℕ → Type 0
 CanCount n visits k = (r : ℕ) → r < n → r < length visits → getD visits r 0 + k < 2 ^ 64
 
--- the cell of each region that has one has grown by how often a history enters it after its beginning
-pub record Gains (j : Job) (k : ℕ) (m : Machine) (e : End) (visits visits′ : List ℕ) : Type 0 where
+-- the exit of the step after so many, where there is a cell for it
+abbrev pub keptAt : ℕ → ℕ → List ℕ → List ℕ
+keptAt made exit taken = cond (ltb made (length taken)) (set taken made exit) taken
+
+-- by a history of the run: the cell of each region that has one has grown by how often it is entered after the beginning, and the exits
+-- are kept
+pub record Observed (j : Job) (k : ℕ) (m : Machine) (e : End) (visits visits′ taken taken′ : List ℕ) : Type 0 where
   pub history : History j k m e
   pub cells : (r : ℕ) → r < length visits → getD visits′ r 0 ≡ getD visits r 0 + count r (map targetOf (history .exits))
+  pub exits : taken′ ≡ takenOf (history .exits) taken
 
 -- from a place to the limit
-abbrev pub GainsFrom : List ℕ → List ℕ → Given → Slices → State → List ℕ → List ℕ → Type 0
-GainsFrom rows exits g l from visits visits′ =
+abbrev pub ObservedFrom : List ℕ → List ℕ → Given → Slices → State → List ℕ → List ℕ → List ℕ → List ℕ → Type 0
+ObservedFrom rows exits g l from visits visits′ taken taken′ =
     let j = jobOf rows exits g l in
     let k = g .terms .limit - from .steps in
-    Gains j k (machineOf l from) (runOf j k (machineOf l from)) visits visits′
+    Observed j k (machineOf l from) (runOf j k (machineOf l from)) visits visits′ taken taken′
 
 -- and from the start
-abbrev pub GainsAll : List ℕ → List ℕ → Given → Slices → List ℕ → List ℕ → Type 0
-GainsAll rows exits g l visits visits′ =
+abbrev pub ObservedAll : List ℕ → List ℕ → Given → Slices → List ℕ → List ℕ → List ℕ → List ℕ → Type 0
+ObservedAll rows exits g l visits visits′ taken taken′ =
     let j = jobOf rows exits g l in
-    Gains j (g .terms .limit) start (ran j) visits visits′
+    Observed j (g .terms .limit) start (ran j) visits visits′ taken taken′
