@@ -5,6 +5,7 @@
  *   piet_build      colour numbers    -> the picture's table: regions and their exits
  *   piet_run        table, input      -> status, stack and outputs
  *   piet_visits     table, input      -> the same, how often each region was entered, and which nodes never were
+ *   piet_history    table, input      -> the same as piet_run, and the exit that each step took
  *   piet_label      a region's colour and first pixel -> its name, as RegRed_0_1
  *   piet_determine_runs_forever       table -> whether every node has an exit
  *   piet_run_picture                  pixels, input -> the whole run: the first three in one call
@@ -350,6 +351,30 @@ uint32_t piet_visits(size_t n,
                      uint64_t *visits, size_t visits_length,
                      uint32_t *unvisited, size_t unvisited_length,
                      uint64_t *answer, size_t answer_length);
+
+/*
+ * A run over a table, as by piet_run, with the exit of each step kept, in their order. PIET_EXIT_TARGET reads the
+ * region that the step entered, PIET_EXIT_STATE the pointers before its instruction, and PIET_EXIT_INSTRUCTION that
+ * instruction. The region that it left is the one that the step before it entered, or for the first step region 0.
+ * Neither a step that is not taken nor a lost slide is kept.
+ *
+ *   n to values   these arguments are as for piet_run, and what is lent is written as by it
+ *   taken         of any length, 0 included: cell i gets the exit of step i + 1. A slice that is shorter than the run
+ *                 has the exits of its first steps; cells past the last step stay as they were
+ *   answer        the 12 cells of piet_run; PIET_RUN_STEPS tells how many exits were taken, kept or not
+ *
+ * Returns the first refusal that holds in the order EDITION, TABLE, or PIET_DONE.
+ */
+uint32_t piet_history(size_t n,
+                      const uint32_t *rows, size_t rows_length,
+                      const uint32_t *exits, size_t exits_length,
+                      uint32_t edition, uint64_t limit, bool abstract_mode,
+                      const uint8_t *input, size_t input_length,
+                      int64_t *stack, size_t stack_length,
+                      uint8_t *kinds, size_t kinds_length,
+                      int64_t *values, size_t values_length,
+                      uint32_t *taken, size_t taken_length,
+                      uint64_t *answer, size_t answer_length);
 
 /*
  * The whole run of a picture: its colours as by piet_classify, its table as by piet_build, and the run over that table

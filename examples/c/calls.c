@@ -342,6 +342,60 @@ static void visits(uint32_t edition, struct terms terms, uint64_t *answer, size_
     PRINT("unvisited", list, COUNT(list));
 }
 
+struct history_call {
+    size_t n;
+    const uint32_t *rows;
+    size_t rows_length;
+    const uint32_t *exits;
+    size_t exits_length;
+    uint32_t edition;
+    uint64_t limit;
+    bool abstract_mode;
+    const uint8_t *input;
+    size_t input_length;
+    int64_t *stack;
+    size_t stack_length;
+    uint8_t *kinds;
+    size_t kinds_length;
+    int64_t *values;
+    size_t values_length;
+    uint32_t *taken;
+    size_t taken_length;
+    uint64_t *answer;
+    size_t answer_length;
+};
+
+static uint32_t pass_history(struct history_call call)
+{
+    return piet_history(call.n, call.rows, call.rows_length, call.exits, call.exits_length, call.edition,
+                        call.limit, call.abstract_mode, call.input, call.input_length,
+                        call.stack, call.stack_length, call.kinds, call.kinds_length,
+                        call.values, call.values_length, call.taken, call.taken_length,
+                        call.answer, call.answer_length);
+}
+
+static void history(size_t n, uint32_t edition, uint32_t *taken, size_t taken_length,
+                    uint64_t *answer, size_t answer_length)
+{
+    struct room room;
+    fill_room(&room);
+    struct history_call call = {
+        .n = n,
+        .rows = row_cells, .rows_length = COUNT(row_cells),
+        .exits = exit_cells, .exits_length = COUNT(exit_cells),
+        .edition = edition, .limit = numbers.limit, .abstract_mode = false,
+        .input = numbers.input, .input_length = numbers.input_length,
+        .stack = room.stack, .stack_length = COUNT(room.stack),
+        .kinds = room.kinds, .kinds_length = COUNT(room.kinds),
+        .values = room.values, .values_length = COUNT(room.values),
+        .taken = taken, .taken_length = taken_length,
+        .answer = answer, .answer_length = answer_length,
+    };
+    print_returned("piet_history", pass_history(call), answer, answer_length);
+    print_room(&room);
+    PRINT("taken", taken, taken_length);
+}
+
 struct run_picture_call {
     const uint8_t *pixels;
     size_t pixels_length, height, width;
@@ -481,6 +535,22 @@ static void tables(void)
     forever(one, 0);
 }
 
+/* The calls that are refused come first, so that the cells after each are those before all. */
+static void histories(void)
+{
+    uint64_t short_run[PIET_RUN_ANSWER - 1], long_run[PIET_RUN_ANSWER + 1];
+    uint32_t shorter[3], longer[6]; /* than the run, which takes four exits */
+    FILL(short_run, 93);
+    FILL(long_run, 95);
+    FILL(shorter, 75);
+    FILL(longer, 76);
+    history(REGIONS + 1, PIET_EDITION_RUST, longer, COUNT(longer), long_run, COUNT(long_run));
+    history(REGIONS + 1, NO_EDITION, longer, COUNT(longer), long_run, COUNT(long_run));
+    history(REGIONS + 1, NO_EDITION, longer, COUNT(longer), short_run, COUNT(short_run));
+    history(REGIONS, PIET_EDITION_RUST, longer, COUNT(longer), long_run, COUNT(long_run));
+    history(REGIONS, PIET_EDITION_RUST, shorter, COUNT(shorter), long_run, COUNT(long_run));
+}
+
 static void runs(void)
 {
     uint64_t short_run[PIET_RUN_ANSWER - 1], long_run[PIET_RUN_ANSWER + 1];
@@ -500,6 +570,7 @@ static void runs(void)
     visits(NO_EDITION, one_number, long_visits, COUNT(long_visits));
     visits(PIET_EDITION_RUST, no_limit, long_visits, COUNT(long_visits));
     visits(PIET_EDITION_RUST, one_number, short_visits, COUNT(short_visits));
+    histories();
     run_picture(PIET_EDITION_RUST, numbers, long_picture, COUNT(long_picture));
     run_picture(PIET_EDITION_RUST, skipped, long_picture, COUNT(long_picture));
     run_picture(NO_EDITION, numbers, long_picture, COUNT(long_picture));

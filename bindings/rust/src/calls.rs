@@ -3,8 +3,8 @@ use crate::ended::{RUN_ANSWER, RUN_PICTURE_ANSWER};
 use crate::raw;
 use crate::visited::VISITS_ANSWER;
 use crate::{
-    Colour, Edition, Ended, Picture, PictureRoom, Pictured, Refusal, RunRoom, Shape, Table, TableRoom, Terms,
-    Unknown, Visited, VisitsRoom,
+    Colour, Edition, Ended, HistoryRoom, Picture, PictureRoom, Pictured, Refusal, RunRoom, Shape, Table,
+    TableRoom, Terms, Unknown, Visited, VisitsRoom,
 };
 
 /// The colour numbers of pixels, three bytes each, into the first height x width cells of `colours`.
@@ -105,6 +105,41 @@ pub fn visits(table: Table, edition: Edition, terms: Terms, room: VisitsRoom) ->
     let number = raw::visits(table, edition.number().into(), terms, room, &mut answer);
     Refusal::unless_done(number, [0; 2])?;
     Ok(Visited::of(answer))
+}
+
+/// A run over a table, as [`run`], with the exit of each step kept, in their order: cell i of `taken` gets that of step
+/// i + 1. A slice that is shorter than the run, one without cells too, has the exits of its first steps; the cells past
+/// the last step stay. [`crate::Exit::of`] reads them. The region that a step left is the one that the step before it
+/// entered, or for the first step region 0. Neither a step that is not taken nor a lost slide is kept.
+/// [`Table::history`] allocates the room.
+///
+/// ```
+/// use piet::{Edition, Exit, HistoryRoom, Instruction, RunRoom, Table, Terms};
+///
+/// // Two nodes. Push leads from the first to the second, and Pop back.
+/// let rows = [[12, 1, 0, 0, 1], [6, 1, 0, 1, 1]].concat();
+/// let exits = [[524_290, 0, 0, 0, 0, 0, 0, 0], [0, 0, 0, 0, 1_310_721, 0, 0, 0]].concat();
+/// let table = Table { regions: 2, rows: &rows, exits: &exits };
+/// let terms = Terms { limit: 3, abstract_mode: false, input: b"" };
+///
+/// let (mut stack, mut taken) = ([0; 1], [7; 5]);
+/// let run = RunRoom { stack: &mut stack, kinds: &mut [], values: &mut [] };
+/// let room = HistoryRoom { run, taken: &mut taken };
+/// let ended = piet::history(table, Edition::Rust, terms, room)?;
+/// assert_eq!((ended.steps, taken), (3, [524_290, 1_310_721, 524_290, 7, 7]));
+/// let back = Exit::of(taken[1]).map(|exit| (exit.target, exit.instruction));
+/// assert_eq!(back, Some((0, Instruction::Pop)));
+/// # Ok::<(), piet::Refusal>(())
+/// ```
+///
+/// # Errors
+///
+/// Table.
+pub fn history(table: Table, edition: Edition, terms: Terms, room: HistoryRoom) -> Result<Ended, Refusal> {
+    let mut answer = [0; RUN_ANSWER];
+    let number = raw::history(table, edition.number().into(), terms, room, &mut answer);
+    Refusal::unless_done(number, [0; 2])?;
+    Ok(Ended::of(answer))
 }
 
 /// The run of a picture: classifying, building and running in one call, both of these in the same edition.

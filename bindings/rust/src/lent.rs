@@ -46,6 +46,15 @@ pub struct VisitsRoom<'a> {
     pub unvisited: &'a mut [u32],
 }
 
+/// The slices that a run is lent whose exits are kept.
+#[derive(Debug)]
+pub struct HistoryRoom<'a> {
+    /// The run's room.
+    pub run: RunRoom<'a>,
+    /// The exits that were taken, as far as there are cells; see [`crate::Exit::of`].
+    pub taken: &'a mut [u32],
+}
+
 /// The slices that the run of a picture is lent: those of classifying, of building and of running.
 #[derive(Debug)]
 pub struct PictureRoom<'a> {

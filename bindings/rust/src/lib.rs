@@ -15,7 +15,7 @@
 //! ```
 //!
 //! [`Pixels::of_p6`] reads the pixels of a Netpbm P6 file, and [`Picture::to_p6`] writes them as one. [`Table::visits`]
-//! counts how often a run enters each region.
+//! counts how often a run enters each region, and [`Table::history`] keeps which exits it takes.
 #![deny(missing_docs, unsafe_code)]
 
 mod calls;
@@ -23,10 +23,12 @@ mod colour;
 mod edition;
 mod ended;
 mod error;
+mod history;
 mod instruction;
 mod lent;
 mod numbers;
 mod output;
+mod owned;
 mod p6;
 mod picture;
 mod pixels;
@@ -39,14 +41,15 @@ mod table;
 mod visited;
 
 pub use calls::{
-    build, classify, determine_runs_forever, label, read_p6, run, run_picture, visits, write_p6,
+    build, classify, determine_runs_forever, history, label, read_p6, run, run_picture, visits, write_p6,
 };
 pub use colour::{Colour, Unknown};
 pub use edition::Edition;
 pub use ended::{Ended, Pictured, Status};
 pub use error::Error;
+pub use history::History;
 pub use instruction::Instruction;
-pub use lent::{PictureRoom, RunRoom, TableRoom, Terms, VisitsRoom};
+pub use lent::{HistoryRoom, PictureRoom, RunRoom, TableRoom, Terms, VisitsRoom};
 pub use numbers::NoSuch;
 pub use output::Output;
 pub use p6::{Pixels, P6_HEADER};

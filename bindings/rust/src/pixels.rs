@@ -1,8 +1,9 @@
 //! From pixels to a run's end in one call, with the room allocated.
-use crate::error::{allocated, reserved};
+use crate::error::allocated;
 use crate::numbers::proved;
+use crate::owned::OwnedRun;
 use crate::{
-    run_picture, Edition, Ended, Error, Output, Picture, PictureRoom, Region, RunRoom, Shape, Skipped, Table,
+    run_picture, Edition, Ended, Error, Output, Picture, PictureRoom, Region, Shape, Skipped, Table,
     TableRoom, Terms, EXITS, ROW,
 };
 use std::fmt;
@@ -38,9 +39,7 @@ struct Owned {
     rows: Vec<u32>,
     exits: Vec<u32>,
     work: Vec<u32>,
-    stack: Vec<i64>,
-    kinds: Vec<u8>,
-    values: Vec<i64>,
+    run: OwnedRun,
 }
 
 impl Owned {
@@ -52,16 +51,13 @@ impl Owned {
             rows: allocated(ROW * codels)?,
             exits: allocated(EXITS * codels)?,
             work: allocated(codels)?,
-            stack: allocated(cells.stack)?,
-            kinds: allocated(cells.outputs)?,
-            values: allocated(cells.outputs)?,
+            run: OwnedRun::of(cells)?,
         })
     }
 
     fn lent(&mut self) -> PictureRoom<'_> {
-        let Owned { colours, map, rows, exits, work, stack, kinds, values } = self;
-        let (table, run) = (TableRoom { map, rows, exits, work }, RunRoom { stack, kinds, values });
-        PictureRoom { colours, table, run }
+        let Owned { colours, map, rows, exits, work, run } = self;
+        PictureRoom { colours, table: TableRoom { map, rows, exits, work }, run: run.lent() }
     }
 }
 
@@ -73,20 +69,11 @@ impl Owned {
 pub fn run_pixels(picture: Picture, edition: Edition, terms: Terms, cells: Cells) -> Result<Told, Error> {
     let mut owned = Owned::of(picture.shape, cells)?;
     let pictured = run_picture(picture, edition, terms, owned.lent())?;
-    let Owned { rows, exits, mut stack, kinds, values, .. } = owned;
+    let Owned { rows, exits, run, .. } = owned;
     let (ended, regions) = (pictured.ended, pictured.regions);
     let region = proved(Table { regions, rows: &rows, exits: &exits }.region(ended.region));
-    stack.truncate(ended.depth);
-    let outputs = outputs_of(&kinds, &values, ended.outputs)?;
+    let (stack, outputs) = run.left(ended)?;
     Ok(Told { ended, regions, region, stack, outputs })
-}
-
-/// So many outputs of a run, of the cells that it left.
-pub(crate) fn outputs_of(kinds: &[u8], values: &[i64], count: usize) -> Result<Vec<Output>, Error> {
-    let mut outputs = reserved(count)?;
-    let cells = kinds.iter().zip(values).take(count);
-    outputs.extend(cells.map(|(&kind, &value)| proved(Output::of(kind, value))));
-    Ok(outputs)
 }
 
 impl fmt::Display for Told {

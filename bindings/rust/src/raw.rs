@@ -3,7 +3,7 @@
 //! C has a slice as a pointer and a length, and the archive wants no null pointer. The pointer of a Rust slice is never
 //! null: that of an empty one dangles, but it is aligned and not null, and the archive reads no element of it. `&mut`
 //! slices can't overlap, so neither can those that are written. `bool` is one byte, 0 or 1, on both sides.
-use crate::{PictureRoom, RunRoom, Shape, Table, TableRoom, Terms, VisitsRoom};
+use crate::{HistoryRoom, PictureRoom, RunRoom, Shape, Table, TableRoom, Terms, VisitsRoom};
 
 #[cfg(not(target_arch = "x86_64"))]
 compile_error!("libpiet_c.a is for x86-64");
@@ -100,6 +100,28 @@ extern "C" {
         visits_length: usize,
         unvisited: *mut u32,
         unvisited_length: usize,
+        answer: *mut u64,
+        answer_length: usize,
+    ) -> u32;
+    fn piet_history(
+        n: usize,
+        rows: *const u32,
+        rows_length: usize,
+        exits: *const u32,
+        exits_length: usize,
+        edition: u32,
+        limit: u64,
+        abstract_mode: bool,
+        input: *const u8,
+        input_length: usize,
+        stack: *mut i64,
+        stack_length: usize,
+        kinds: *mut u8,
+        kinds_length: usize,
+        values: *mut i64,
+        values_length: usize,
+        taken: *mut u32,
+        taken_length: usize,
         answer: *mut u64,
         answer_length: usize,
     ) -> u32;
@@ -268,6 +290,36 @@ pub fn visits(table: Table, edition: u32, terms: Terms, room: VisitsRoom, answer
             visits.len(),
             unvisited.as_mut_ptr(),
             unvisited.len(),
+            answer.as_mut_ptr(),
+            answer.len(),
+        )
+    }
+}
+
+/// The edition may have any number and the answer any length, as for [`build`].
+pub fn history(table: Table, edition: u32, terms: Terms, room: HistoryRoom, answer: &mut [u64]) -> u32 {
+    let HistoryRoom { run, taken } = room;
+    // SAFETY: each pointer comes with the length of its slice
+    unsafe {
+        piet_history(
+            table.regions,
+            table.rows.as_ptr(),
+            table.rows.len(),
+            table.exits.as_ptr(),
+            table.exits.len(),
+            edition,
+            terms.limit,
+            terms.abstract_mode,
+            terms.input.as_ptr(),
+            terms.input.len(),
+            run.stack.as_mut_ptr(),
+            run.stack.len(),
+            run.kinds.as_mut_ptr(),
+            run.kinds.len(),
+            run.values.as_mut_ptr(),
+            run.values.len(),
+            taken.as_mut_ptr(),
+            taken.len(),
             answer.as_mut_ptr(),
             answer.len(),
         )

@@ -1,8 +1,8 @@
 //! Which regions a run enters, and how often.
 use crate::ended::RUN_ANSWER;
 use crate::error::allocated;
-use crate::pixels::outputs_of;
-use crate::{visits, Cells, Edition, Ended, Error, Output, RunRoom, Table, Terms, VisitsRoom, MOST_CODELS};
+use crate::owned::OwnedRun;
+use crate::{visits, Cells, Edition, Ended, Error, Output, Table, Terms, VisitsRoom, MOST_CODELS};
 
 /// Where a run stopped whose visits were counted.
 #[derive(Clone, Copy, Debug, PartialEq, Eq, Hash)]
@@ -65,14 +65,11 @@ impl Table<'_> {
         // a table of more regions is refused, whatever is lent
         let regions = self.regions.min(MOST_CODELS);
         let (mut counts, mut unvisited) = (allocated(regions)?, allocated(regions)?);
-        let (mut stack, mut kinds, mut values) =
-            (allocated(cells.stack)?, allocated(cells.outputs)?, allocated(cells.outputs)?);
-        let run = RunRoom { stack: &mut stack, kinds: &mut kinds, values: &mut values };
-        let room = VisitsRoom { run, visits: &mut counts, unvisited: &mut unvisited };
+        let mut run = OwnedRun::of(cells)?;
+        let room = VisitsRoom { run: run.lent(), visits: &mut counts, unvisited: &mut unvisited };
         let visited = visits(self, edition, terms, room)?;
-        stack.truncate(visited.ended.depth);
         unvisited.truncate(visited.unvisited);
-        let outputs = outputs_of(&kinds, &values, visited.ended.outputs)?;
+        let (stack, outputs) = run.left(visited.ended)?;
         Ok(Visits { ended: visited.ended, stack, outputs, counts, unvisited })
     }
 }

@@ -73,6 +73,17 @@ fn every_request_for_visits_may_fail() {
     assert_eq!((visits.counts, visits.outputs), (vec![3, 2], vec![Output::Int(65)]));
 }
 
+/// Four slices, the exits and the outputs.
+#[test]
+fn every_request_for_a_history_may_fail() {
+    let run = || TABLE.history(Edition::Rust, TERMS, CELLS, 3);
+    for requests in 0..6 {
+        assert_eq!(granted(requests, run), Err(Error::Memory), "with {requests} granted");
+    }
+    let history = granted(6, run).unwrap();
+    assert_eq!((history.taken.len(), history.outputs), (3, vec![Output::Int(65)]));
+}
+
 /// A file that is read, and one that is written, is one request each.
 #[test]
 fn every_request_for_a_file_may_fail() {
@@ -93,7 +104,12 @@ fn lengths_that_no_machine_has() {
         for cells in [Cells { stack: cells, ..CELLS }, Cells { outputs: cells, ..CELLS }] {
             assert_eq!(run_pixels(picture, Edition::Rust, TERMS, cells), Err(Error::Memory));
             assert_eq!(TABLE.visits(Edition::Rust, TERMS, cells), Err(Error::Memory));
+            assert_eq!(TABLE.history(Edition::Rust, TERMS, cells, 0), Err(Error::Memory));
         }
+        // as many exits as the limit are all
+        let no_limit = Terms { limit: u64::MAX, ..TERMS };
+        assert_eq!(TABLE.history(Edition::Rust, no_limit, CELLS, cells), Err(Error::Memory));
+        assert_eq!(TABLE.history(Edition::Rust, TERMS, CELLS, cells).unwrap().taken.len(), 4);
     }
 }
 

@@ -34,15 +34,16 @@ prints {before = before} {text = text} a p = record {
 }
 
 -- a run that finished
-record Finish (a : Asked) (l l′ : Lends) (x : Ended) : Type 0 where
+pub record Finish (a : Asked) (l l′ : Lends) (x : Ended) (n : ℕ) : Type 0 where
   pub end : End
   pub is : x ≡ endedOf end
   pub none : running.refusalOf a l ≡ numbers 0 (0 ∷ 0 ∷ [])
   pub runs : RanPicture a l l′ end
+  pub counted : runs .regions ≡ n
 
-finish : {a : Asked} {l l′ : Lends} {x : Ended} {n : ℕ} (r : Pictured) → r ≡ Finished x n → running.Outcome a l r l′ → Finish a l l′ x
+pub finish : {a : Asked} {l l′ : Lends} {x : Ended} {n : ℕ} (r : Pictured) → r ≡ Finished x n → running.Outcome a l r l′ → Finish a l l′ x n
 finish r z (running.refused k v h q) = absurd (refusing.refused k v _ (sym q ∙ ap running.numbered z))
-finish r z (running.done {e} none R) = record { end = e; is = cc; none = none; runs = R }
+finish r z (running.done {e} none R) = record { end = e; is = cc; none = none; runs = R; counted = cc }
 
 -- a refusal's number
 refusal-is : {a : Asked} {l l′ : Lends} {n y x : ℕ} (r : Pictured) → r ≡ Refused n y x → running.Outcome a l r l′
@@ -58,7 +59,7 @@ module _ {job : List ℕ} (c : Content) (j : IsJob job c) {l l′ : Lends} (s : 
       prints (rw e (refused c j k v (sym (same-refusal c s) ∙ h))) p
 
   module _ (s′ : Sized l′) {x : Ended} {n : ℕ} (o : running.Outcome (askedOf c) l (Finished x n) l′) where
-    f : Finish (askedOf c) l l′ x
+    f : Finish (askedOf c) l l′ x n
     f = finish _ refl o
 
     none : refusalOf c ≡ numbers 0 (0 ∷ 0 ∷ [])

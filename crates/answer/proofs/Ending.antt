@@ -56,7 +56,7 @@ fresh-sized = record { colours = refl; map = refl; rows = refl; exits = refl; wo
 pub same-refusal : (c : Content) {l : Lends} → Sized l → running.refusalOf (askedOf c) l ≡ refusalOf c
 same-refusal c s = rw (s .colours, s .map, s .rows, s .exits, s .work)
 
-same-room : {l : Lends} → Sized l → roomOf (l .run) ≡ runRoom
+pub same-room : {l : Lends} → Sized l → roomOf (l .run) ≡ runRoom
 same-room s = rw (s .stack, s .kinds, s .values)
 
 -- no colour is above 19 where the scan finds none

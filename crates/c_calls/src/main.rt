@@ -15,6 +15,8 @@
 //                    other lines, a count of its own for each reason to skip one: 3 lines are blank, 2 no numbers, 1 is out
 //                    of range, and 5 times the input has ended; edition 3 is refused
 //     visits         after one step two of the three nodes were entered; edition 3 is refused, and so is the largest limit
+//     history        the four exits of the first run: three cells hold the first three, and of six the last two stay; five
+//                    regions are refused, for which there are too few rows, and before them edition 3
 //     run_picture    as classify, build and run together, with the same lent slices
 //     read_p6        a file of 1 x 2 pixels, and one whose last byte is missing; the file has the width first
 //     write_p6       the file's text tells height from width; with another height the bytes don't fit
@@ -75,11 +77,7 @@ fn print_bytes(name: &[u8], bytes: &[u8]) {
 
 fn print_cells(name: &[u8], cells: &[u32]) {
     io::write_all(STDOUT_FILENO, name);
-    let mut i = 0;
-    while i < cells.len() {
-        stored::print_cell(cells[i]);
-        i += 1;
-    }
+    stored::print_cells(cells);
     io::write_all(STDOUT_FILENO, b"\n");
 }
 
@@ -212,6 +210,30 @@ fn visits(edition: u32, limit: u64, answer: &mut [u64]) {
     print_cells(b"  unvisited", &unvisited);
 }
 
+fn history(n: usize, edition: u32, taken: &mut [u32], answer: &mut [u64]) {
+    let exits = exits();
+    let mut stack = [86i64; 5];
+    let mut kinds = [87u8; 3];
+    let mut values = [88i64; 4];
+    let number = piet_c::run_history::piet_history(
+        n,
+        &ROWS,
+        &exits,
+        edition,
+        4,
+        false,
+        b"7\n300\n5\n",
+        &mut stack,
+        &mut kinds,
+        &mut values,
+        taken,
+        answer,
+    );
+    print_returned(b"piet_history", number, answer);
+    print_room(&stack, &kinds, &values);
+    print_cells(b"  taken", taken);
+}
+
 fn run_picture(edition: u32, limit: u64, input: &[u8], answer: &mut [u64]) {
     let pixels = pixels();
     let mut colours = [80u8; 16];
@@ -282,6 +304,19 @@ fn tables() {
     forever(&mut none);
 }
 
+// The calls that are refused come first, so that the cells after each are those before all.
+fn histories() {
+    let mut eleven = [93u64; 11];
+    let mut thirteen = [95u64; 13];
+    let mut shorter = [75u32; 3];
+    let mut longer = [76u32; 6];
+    history(5, 1, &mut longer, &mut thirteen);
+    history(5, 3, &mut longer, &mut thirteen);
+    history(5, 3, &mut longer, &mut eleven);
+    history(4, 1, &mut longer, &mut thirteen);
+    history(4, 1, &mut shorter, &mut thirteen);
+}
+
 fn runs() {
     let mut eleven = [93u64; 11];
     let mut twelve = [94u64; 12];
@@ -295,6 +330,7 @@ fn runs() {
     visits(3, 1, &mut fourteen);
     visits(1, 18446744073709551615, &mut fourteen);
     visits(1, 1, &mut twelve);
+    histories();
     run_picture(1, 4, b"7\n300\n5\n", &mut fourteen);
     run_picture(1, 31, b"\n\n\nx\nx\n9223372036854775808\n", &mut fourteen);
     run_picture(3, 4, b"7\n300\n5\n", &mut fourteen);

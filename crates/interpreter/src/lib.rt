@@ -7,10 +7,13 @@ mod validity;
 pub use endless::determine_runs_forever;
 use machine::Core;
 use machine::Stop;
+pub use running::begin;
 pub use running::resume;
 pub use running::run;
 pub use running::run_history;
 pub use running::run_observed;
+pub use stepping::Moved;
+pub use stepping::step;
 pub use validity::WRONG_TABLE;
 pub use validity::valid;
 

@@ -127,7 +127,7 @@ pub fn resume(
 }
 
 // The start: region 0, dp right, cc left, an empty stack, 0 steps. The slices are cleared for it.
-fn begin(stack: &mut [i64], kinds: &mut [u8], values: &mut [i64]) -> State
+pub fn begin(stack: &mut [i64], kinds: &mut [u8], values: &mut [i64]) -> State
     ensures { λ r. ⌜ Begun (slices (now (stack .entry)) (now (kinds .entry)) (now (values .entry))) (slices (now (stack .exit)) (now (kinds .exit)) (now (values .exit))) r ⌝ }
 {
     let cells = stack.len();

@@ -126,14 +126,14 @@ coloured number p m r e w v h k =
 
 -- what is known of a table of n regions that was built from a picture: a run of its edition does not refuse it, and what
 -- makes such a run follow the picture
-record Followed (number : ℕ) (p : Picture) (map rows exits : List ℕ) (n : ℕ) : Type 0 where
-  named : unknownEdition number ≡ false
-  valid : validOf (editionOf number) n rows exits ≡ true
-  sound : Sound p
-  begins : getD (p .colours) 0 0 ≡ white → ⊥
-  tabled : Tabled (editionOf number) p (take (codels p) map) rows exits n
+pub record Followed (number : ℕ) (p : Picture) (map rows exits : List ℕ) (n : ℕ) : Type 0 where
+  pub named : unknownEdition number ≡ false
+  pub valid : validOf (editionOf number) n rows exits ≡ true
+  pub sound : Sound p
+  pub begins : getD (p .colours) 0 0 ≡ white → ⊥
+  pub tabled : Tabled (editionOf number) p (take (codels p) map) rows exits n
 
-runs : {number : ℕ} {p : Picture} {map rows exits work map′ rows′ exits′ work′ : List ℕ} {n : ℕ}
+pub runs : {number : ℕ} {p : Picture} {map rows exits work map′ rows′ exits′ work′ : List ℕ} {n : ℕ}
     → building.Outcome number p map rows exits work (Done n) map′ rows′ exits′ work′ → Followed number p map′ rows′ exits′ n
 runs (building.refused k v e h) = absurd (refused-done k _ v h)
   where

@@ -1,4 +1,5 @@
 -- Demand 3: the run of a table built from a picture follows the picture.
+--     step-moves, step-walks    a step is a move of the picture, and walks on
 --     history-walks    the exits that a run takes are, read as moves, a walk of the picture
 --     follows-from     what is left of a run, from where it stands after a history, follows the picture
 --     follows          and so does the run from the start
@@ -30,7 +31,7 @@ use Rattle.machine.specs.Place.{Machine, End, start}
 use Rattle.machine.proofs.Fitting.{fit-kept, fit-stops, not-completed, not-limit, not-wait}
 use Rattle.machine.proofs.Facing.{exec-facing}
 use Rattle.machine.proofs.Skipping.{exec-counts, exec-total, times-append, skipped-same}
-use Rattle.piet.specs.Moves.{NoMove}
+use Rattle.piet.specs.Moves.{FirstOpen, NoMove}
 use Rattle.piet.specs.Follows.{Move, enteredBy, doing, Walk, starts, moves, reasonsOn, Barred, Follows}
 use Rattle.piet.specs.Decoded.{moveBy, onto}
 use Rattle.colour.specs.Palette.{white}
@@ -152,21 +153,34 @@ module _ {p : Picture} {map rows exits : List ℕ} {n : ℕ} (S : Sound p) (g : 
   abbrev exit-taken : {history : List Move} {m : Machine} → Stands history m → Taken S B (m .region) (m .store .pointers) (exitFrom job m)
   exit-taken {m = m} s = taken S B (m .region) (m .store .pointers) (s .inside) (s .valid) (s .node)
 
-  -- one step more
-  step-walks : {history : List Move} {m m′ : Machine} → Stands history m → Kept job m m′ → Stands (moveBy (m .region) (exitFrom job m) ∷ history) m′
-  step-walks {history} {m} {m′} s k = go (exit-taken s)
+  -- the move that a step makes: it is the first open one, its instruction is kept, and it comes to such a place
+  pub record Moves (m m′ : Machine) : Type 0 where
+    pub first : FirstOpen edition p map (m .region) (m .store .pointers) (targetOf (exitFrom job m)) (pointersOf (exitFrom job m)) (instructionOf (exitFrom job m))
+    pub kept : doing p map g room (m .region) (pointersOf (exitFrom job m)) (instructionOf (exitFrom job m)) (m .store) ≡ keeps (m′ .store)
+    pub node : Node edition p map (targetOf (exitFrom job m))
+    pub inside : targetOf (exitFrom job m) < n
+    pub valid : Valid (m′ .store .pointers)
+
+  pub step-moves : {history : List Move} {m m′ : Machine} → Stands history m → Kept job m m′ → Moves m m′
+  step-moves {m = m} {m′} s k = go (exit-taken s)
     where
-      go : Taken S B (m .region) (m .store .pointers) (exitFrom job m) → Stands (moveBy (m .region) (exitFrom job m) ∷ history) m′
+      go : Taken S B (m .region) (m .store .pointers) (exitFrom job m) → Moves m m′
       go (none z N) = absurd (true≢false (sym z ∙ k .some))
       go (some d F M t u) =
           let x = exitFrom job m in
           let z : doing p map g room (m .region) (pointersOf x) (instructionOf x) (m .store) ≡ keeps (m′ .store) = rw (B .size (m .region) (s .inside)) at (k .store) in
-          record {
-            walk = rw (k .region) (moves (s .walk) (k .unawaited) F z);
-            node = rw (k .region) M;
-            inside = rw (k .region) t;
-            valid = keeps-valid p map g room (m .region) (pointersOf x) (instructionOf x) (m .store) z u;
-          }
+          record { first = F; kept = z; node = M; inside = t; valid = keeps-valid p map g room (m .region) (pointersOf x) (instructionOf x) (m .store) z u }
+
+  -- one step more
+  pub step-walks : {history : List Move} {m m′ : Machine} → Stands history m → Kept job m m′ → Stands (moveBy (m .region) (exitFrom job m) ∷ history) m′
+  step-walks s k =
+      let v = step-moves s k in
+      record {
+        walk = rw (k .region) (moves (s .walk) (k .unawaited) (v .first) (v .kept));
+        node = rw (k .region) (v .node);
+        inside = rw (k .region) (v .inside);
+        valid = v .valid;
+      }
 
   -- the exits that a run takes are, read as moves, a walk of the picture
   pub history-walks : {history : List Move} {m m′ : Machine} {taken : List ℕ} → Stands history m → Passes job m taken m′

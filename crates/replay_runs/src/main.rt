@@ -3,7 +3,8 @@
 // each, a picture, then the limit in four bytes, the mode, the stack's room and the output's room, a byte each, the input's
 // length in two, the lower first, and the input; `stdout` has a line for each: the run's twelve numbers, the stack from its
 // top, and a kind and a value for each output. Where the run is not refused a line follows: how many nodes it never entered,
-// how often it entered each region, and those nodes.
+// how often it entered each region, and those nodes; and one more: twelve cells that held 9999, which is no exit of a table
+// here, with the exits that it took.
 ghost use Prim.Native.Nat.{_≤_};
 ghost use lib.ListN.{length};
 use cfg::Built;
@@ -155,7 +156,44 @@ fn print_visits(
     print_nodes(&unvisited, answer[12]);
 }
 
-// Both lines, in the same room.
+// The exits that the same run takes, as far as there are cells. A refusal is told by the run's line.
+fn print_history(
+    n: usize,
+    rows: &[u32],
+    exits: &[u32],
+    edition: u32,
+    question: &[u8],
+    stack: &mut [i64],
+    kinds: &mut [u8],
+    values: &mut [i64],
+)
+    requires { ⌜ 9 ≤ length (now question) ⌝ }
+{
+    let mut taken = [9999u32; 12];
+    let mut answer = [0u64; 12];
+    let limit = limit_of(question[0], question[1], question[2], question[3]);
+    let number = piet_c::run_history::piet_history(
+        n,
+        rows,
+        exits,
+        edition,
+        limit,
+        question[4] == 1,
+        &question[9..],
+        stack,
+        kinds,
+        values,
+        &mut taken,
+        &mut answer,
+    );
+    if number != 0 {
+        return;
+    }
+    io::write_all(STDOUT_FILENO, b"\nhistory");
+    stored::print_cells(&taken);
+}
+
+// The three lines, in the same room.
 fn print_answers(
     n: usize,
     rows: &[u32],
@@ -170,6 +208,7 @@ fn print_answers(
 {
     print_run(n, rows, exits, edition, question, stack, kinds, values);
     print_visits(n, rows, exits, edition, question, stack, kinds, values);
+    print_history(n, rows, exits, edition, question, stack, kinds, values);
 }
 
 fn lend_and_run(n: usize, rows: &[u32], exits: &[u32], edition: u32, question: &[u8])

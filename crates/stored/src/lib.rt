@@ -75,6 +75,14 @@ pub fn print_numbers(numbers: &[u64]) {
     }
 }
 
+pub fn print_cells(cells: &[u32]) {
+    let mut i = 0;
+    while i < cells.len() {
+        print_cell(cells[i]);
+        i += 1;
+    }
+}
+
 pub fn print_bytes(bytes: &[u8]) {
     let mut i = 0;
     while i < bytes.len() {

@@ -99,6 +99,29 @@ extern "C" {
         answer: *mut u64,
         answer_length: usize,
     ) -> u32;
+    #[cfg(feature = "history")]
+    fn piet_history(
+        n: usize,
+        rows: *const u32,
+        rows_length: usize,
+        exits: *const u32,
+        exits_length: usize,
+        edition: u32,
+        limit: u64,
+        abstract_mode: bool,
+        input: *const u8,
+        input_length: usize,
+        stack: *mut i64,
+        stack_length: usize,
+        kinds: *mut u8,
+        kinds_length: usize,
+        values: *mut i64,
+        values_length: usize,
+        taken: *mut u32,
+        taken_length: usize,
+        answer: *mut u64,
+        answer_length: usize,
+    ) -> u32;
     #[cfg(feature = "picture")]
     fn piet_run_picture(
         pixels: *const u8,
@@ -330,6 +353,49 @@ pub fn visits(
             visits.len(),
             unvisited.as_mut_ptr(),
             unvisited.len(),
+            answer.as_mut_ptr(),
+            answer.len(),
+        )
+    }
+}
+
+/// The slices that a run whose exits are kept is lent, but for its answer.
+#[cfg(feature = "history")]
+pub struct Recording {
+    pub space: Space,
+    pub taken: Vec<u32>,
+}
+
+#[cfg(feature = "history")]
+pub fn history(
+    table: &Table,
+    edition: u32,
+    terms: &crate::machine::Terms,
+    lent: &mut Recording,
+    answer: &mut [u64],
+) -> u32 {
+    let Recording { space, taken } = lent;
+    // SAFETY: each pointer comes with the length of its slice
+    unsafe {
+        piet_history(
+            table.n,
+            table.rows.as_ptr(),
+            table.rows.len(),
+            table.exits.as_ptr(),
+            table.exits.len(),
+            edition,
+            terms.limit,
+            terms.is_abstract,
+            terms.input.as_ptr(),
+            terms.input.len(),
+            space.stack.as_mut_ptr(),
+            space.stack.len(),
+            space.kinds.as_mut_ptr(),
+            space.kinds.len(),
+            space.values.as_mut_ptr(),
+            space.values.len(),
+            taken.as_mut_ptr(),
+            taken.len(),
             answer.as_mut_ptr(),
             answer.len(),
         )

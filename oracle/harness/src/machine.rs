@@ -4,7 +4,7 @@ use crate::outside::{caught, with_input};
 use crate::skips::{reason, Skips};
 use interpreter::interpreter::Interpreter;
 use piet_core::cfg::{Node, CFG};
-use piet_core::flow::DIRECTIONS;
+use piet_core::flow::{PointerState, DIRECTIONS};
 use piet_core::instruction::{Instruction, StdOutWrapper};
 use piet_core::settings::{InterpreterSettings, Verbosity};
 use piet_core::state::{ExecutionState, ExecutionStatus};
@@ -135,17 +135,21 @@ pub struct Judged {
     pub skips: Skips,
     /// the blocks that were entered, in their order: where the run starts, and where each step taken leads
     pub entered: Vec<Node>,
+    pub moves: Vec<Move>,
     pub panic: Option<String>,
 }
+
+/// Of a step taken: the pointers that `next_block` leaves, before the instruction turns them, and that instruction.
+pub type Move = (PointerState, Option<Instruction>);
 
 impl Judged {
     /// What the Rust answers where the walk led, which it has to have reached by the same steps.
     fn of(answer: Answer, walk: Walk, panic: Option<String>) -> Self {
-        let Walk { read: Read { place, skips }, entered, .. } = walk;
+        let Walk { read: Read { place, skips }, entered, moves, .. } = walk;
         let last = entered.last().expect("the entry at least").get_label();
         assert_eq!((answer.used, &answer.label), (place, last));
         assert_eq!(answer.steps + 1, entered.len() as u64);
-        Judged { answer, skips, entered, panic }
+        Judged { answer, skips, entered, moves, panic }
     }
 
     /// The numbers of the result (rule 8.5), with that of the region it names.
@@ -186,6 +190,7 @@ pub fn run_in_room(cfg: &CFG, terms: &Terms, room: &Room) -> Judged {
 /// The steps before the first one that passes the room or panics.
 struct Walk {
     entered: Vec<Node>,
+    moves: Vec<Move>,
     read: Read,
     /// which it is; 0 where the run ends without one
     stop: Result<u32, String>,
@@ -210,7 +215,7 @@ fn steps_to(entered: &[Node]) -> u64 {
 }
 
 fn walk(cfg: &CFG, terms: &Terms, room: &Room) -> Walk {
-    let (mut entered, mut read) = (vec![], Read::default());
+    let (mut entered, mut moves, mut read) = (vec![], vec![], Read::default());
     let (stop, _) = with_input(terms.input, || {
         let mut machine = interpreter(cfg, terms);
         let mut block = machine.get_entry();
@@ -223,6 +228,7 @@ fn walk(cfg: &CFG, terms: &Terms, room: &Room) -> Walk {
                 break;
             };
             block = next;
+            let pointers = machine.open_state().pointers;
             let after = step(&mut machine, instruction, terms, read);
             if machine.open_state().stack.len() > room.stack {
                 return STACK_FULL;
@@ -231,11 +237,12 @@ fn walk(cfg: &CFG, terms: &Terms, room: &Room) -> Walk {
                 return OUTPUT_FULL;
             }
             entered.push(block.clone());
+            moves.push((pointers, instruction));
             read = after;
         }
         0
     });
-    Walk { entered, read, stop }
+    Walk { entered, moves, read, stop }
 }
 
 /// What a step more reads and skips; it is taken only where the room holds what it leaves.

@@ -4,7 +4,7 @@ use std::cell::Cell;
 use std::io::{pipe, stdin, Read, Write};
 use std::os::fd::AsRawFd;
 use std::panic::{catch_unwind, set_hook, take_hook, AssertUnwindSafe};
-use std::sync::Once;
+use std::sync::{Mutex, Once};
 
 /// A pipe holds this much without a reader.
 pub const LONGEST_INPUT: usize = 60_000;
@@ -38,6 +38,9 @@ fn text(payload: &(dyn Any + Send)) -> &str {
 
 /// Runs f with this standard input: its value, or its panic, and the number of bytes consumed.
 pub fn with_input<T>(input: &[u8], f: impl FnOnce() -> T) -> (Result<T, String>, usize) {
+    // a process has one standard input, and its tests are threads
+    static ALONE: Mutex<()> = Mutex::new(());
+    let _alone = ALONE.lock().expect("no thread has failed to feed or drain it");
     feed(input);
     let result = caught(f);
     (result, input.len() - drain())

@@ -1,10 +1,9 @@
 //! Regions, exits and labels.
-use crate::machine::entry;
+use crate::machine::{entry, Move};
 use crate::numbers::{colour, colour_number, instruction_number, state_number};
 use parser::cfg::CFGBuilder;
 use piet_core::cfg::{Node, CFG};
 use piet_core::color::Lightness;
-use piet_core::flow::PietTransition;
 use piet_core::program::PietSource;
 use piet_core::settings::CodelSettings;
 use piet_core::state::Position;
@@ -125,16 +124,17 @@ impl Built {
                 for t in transitions {
                     let cell = &mut exits[state_number(t.entry_state) as usize];
                     assert_eq!(*cell, 0, "one transition for a state");
-                    *cell = exit_number(numbers[target], t);
+                    *cell = exit_number(numbers[target], (t.exit_state, t.instruction));
                 }
             }
         }
     }
 }
 
-fn exit_number(target: usize, t: &PietTransition) -> u32 {
-    let state = state_number(t.exit_state) as u32;
-    1 + target as u32 + 65_536 * state + 524_288 * instruction_number(t.instruction) as u32
+/// The exit by which a move leads to this region.
+pub fn exit_number(target: usize, (pointers, instruction): Move) -> u32 {
+    let (state, number) = (state_number(pointers) as u32, instruction_number(instruction) as u32);
+    1 + target as u32 + 65_536 * state + 524_288 * number
 }
 
 impl Display for Built {

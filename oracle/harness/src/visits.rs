@@ -24,22 +24,12 @@ impl Visits {
 #[cfg(test)]
 mod tests {
     use super::*;
-    use crate::editions::{self, Left, PAGE, RUST};
-    use crate::machine::{self, Room, Terms};
-    use crate::paint::drawn;
-    use crate::question::Question;
-    use crate::random::{Random, BLACK};
+    use crate::editions::tests::{ran_by_chance, ran_by_editions, run_up_to};
+    use crate::editions::Left;
 
     /// The counts and the list of a picture's run by each edition.
     fn by_editions(lines: &[&str], limit: u64) -> [(Vec<u64>, Vec<u32>); 2] {
-        let (picture, room) = (drawn(1, lines), Room { stack: 16, outputs: 8 });
-        let question = Question { picture, limit, is_abstract: false, room, input: vec![] };
-        [RUST, PAGE].map(|edition| {
-            let built = editions::table(&question.picture, edition).expect("not white");
-            let left = match edition {
-                RUST => Left::by_rust(&built, &question.judged(&built)),
-                _ => Left::by_page(&built.run_by_page(&question)),
-            };
+        ran_by_editions(lines, limit).map(|(built, left)| {
             let marks: Vec<u32> = built.rows.iter().map(|row| row[4]).collect();
             let Visits { counts, unvisited } = Visits::of(&left.entered, &marks);
             (counts, unvisited)
@@ -65,17 +55,9 @@ mod tests {
     /// Where the Rust's own run stops at each limit, against the walk's list.
     #[test]
     fn the_regions_entered_are_where_runs_of_each_limit_stop() {
-        let mut random = Random::seeded(18);
-        for _ in 0..500 {
-            let (mut picture, input) = (random.picture(6), random.input());
-            picture.colours[0] = picture.colours[0].min(BLACK);
-            let (limit, room) = (30, Room { stack: usize::MAX, outputs: usize::MAX });
-            let question = Question { picture, limit, is_abstract: false, room, input };
-            let (built, ran) = question.asked().expect("not white");
-            let stops = (0..=ran.answer.steps).map(|limit| {
-                let terms = Terms { limit, is_abstract: false, input: &question.input };
-                built.region(&machine::run(&built.cfg, &terms).expect("no panic so far").label)
-            });
+        for (question, built, ran) in ran_by_chance(500) {
+            let stop = |limit| built.region(&run_up_to(limit, &question, &built).label);
+            let stops = (0..=ran.answer.steps).map(stop);
             assert_eq!(Left::by_rust(&built, &ran).entered, stops.collect::<Vec<usize>>());
         }
     }

@@ -1,7 +1,7 @@
 //! What the safe calls do not show: numbers that their types rule out are refused by the archive too, the answers of
 //! refused calls, and that no length is another slice's.
-use super::{build, classify, label, read_p6, run, run_picture, visits, write_p6};
-use crate::{PictureRoom, RunRoom, Shape, Table, TableRoom, Terms, VisitsRoom, LABEL};
+use super::{build, classify, history, label, read_p6, run, run_picture, visits, write_p6};
+use crate::{HistoryRoom, PictureRoom, RunRoom, Shape, Table, TableRoom, Terms, VisitsRoom, LABEL};
 
 const RED: [u8; 3] = [0xFF, 0, 0];
 const ONE_PIXEL: Shape = Shape { height: 1, width: 1, codel: 1 };
@@ -21,7 +21,7 @@ const NO_LIMIT: Terms = Terms { limit: u64::MAX, ..TERMS };
 /// Numbers that name no edition; in fewer bits some of them would.
 const NO_EDITIONS: [u32; 8] = [0, 3, 4, 257, 258, 65_537, 1 << 31, u32::MAX];
 
-/// What the run of a picture of one codel is lent, and more than the visits of two regions need.
+/// What the run of a picture of one codel is lent, and more than the visits of two regions need and three steps keep.
 #[derive(Clone, Debug, PartialEq)]
 struct Lent {
     colours: Vec<u8>,
@@ -31,6 +31,7 @@ struct Lent {
     values: [i64; 1],
     visits: [u64; 3],
     unvisited: [u32; 3],
+    taken: [u32; 4],
 }
 
 impl Lent {
@@ -45,6 +46,7 @@ impl Lent {
             values: [7],
             visits: [7; 3],
             unvisited: [7; 3],
+            taken: [7; 4],
         }
     }
 
@@ -58,6 +60,12 @@ impl Lent {
     fn counting(&mut self, listed: usize) -> VisitsRoom<'_> {
         let Lent { stack, kinds, values, visits, unvisited, .. } = self;
         VisitsRoom { run: RunRoom { stack, kinds, values }, visits, unvisited: &mut unvisited[..listed] }
+    }
+
+    /// The room for exits, with so many cells for them.
+    fn keeping(&mut self, cells: usize) -> HistoryRoom<'_> {
+        let Lent { stack, kinds, values, taken, .. } = self;
+        HistoryRoom { run: RunRoom { stack, kinds, values }, taken: &mut taken[..cells] }
     }
 }
 
@@ -111,10 +119,11 @@ type Call<'a> = &'a dyn Fn(u32, &mut Lent, &mut [u64]) -> u32;
 #[test]
 fn editions_that_are_none() {
     let (no_side, no_region) = (Shape { height: 0, ..ONE_PIXEL }, Table { regions: 0, ..LOOP });
-    let calls: [(usize, Call); 4] = [
+    let calls: [(usize, Call); 5] = [
         (2, &|edition, lent, answer| build(&[20], no_side, edition, lent.room().table, answer)),
         (12, &|edition, lent, answer| run(no_region, edition, TERMS, lent.room().run, answer)),
         (13, &|edition, lent, answer| visits(no_region, edition, NO_LIMIT, lent.counting(0), answer)),
+        (12, &|edition, lent, answer| history(no_region, edition, TERMS, lent.keeping(4), answer)),
         (13, &|edition, lent, answer| run_picture((&RED, no_side, 4), edition, TERMS, lent.room(), answer)),
     ];
     for (cells, call) in calls {
@@ -162,6 +171,24 @@ fn cells_of_visits() {
     }
 }
 
+/// A history has the twelve of its run. The slice for exits may have any length.
+#[test]
+fn cells_of_a_history() {
+    let exit = LOOP.exits[0];
+    for cells in 0..=13 {
+        for (kept, taken) in [(0, [7, 7, 7, 7]), (2, [exit, exit, 7, 7]), (4, [exit, exit, exit, 7])] {
+            let (mut lent, mut answer) = (Lent::full(), vec![7; cells]);
+            let number = history(LOOP, 1, TERMS, lent.keeping(kept), &mut answer);
+            if cells < 12 {
+                assert_eq!((number, lent, answer), (4, Lent::full(), vec![7; cells]));
+            } else {
+                assert_eq!((number, &answer[..12]), (0, &[2, 3, 0, 0, 0, 1, 0, 4, 0, 1, 1, 0][..]));
+                assert_eq!((lent.taken, &answer[12..]), (taken, &vec![7; cells - 12][..]));
+            }
+        }
+    }
+}
+
 /// A picture has the twelve of its run, and then the count of regions.
 #[test]
 fn cells_of_a_picture() {
@@ -183,6 +210,10 @@ fn refused_runs() {
     let (mut lent, mut answer) = (Lent::full(), [7; 13]);
     assert_eq!(run(Table { regions: 2, ..LOOP }, 1, TERMS, lent.room().run, &mut answer[..12]), 10);
     assert_eq!(answer, [0, 0, 0, 0, 0, 0, 0, 0, 0, 0, 0, 0, 7]);
+
+    let mut answer = [7; 13];
+    assert_eq!(history(Table { regions: 2, ..LOOP }, 1, TERMS, lent.keeping(4), &mut answer[..12]), 10);
+    assert_eq!((&lent, answer), (&Lent::full(), [0, 0, 0, 0, 0, 0, 0, 0, 0, 0, 0, 0, 7]));
 
     let (mut answer, one_row) = ([7; 13], Shape { width: 2, ..ONE_PIXEL });
     lent.colours.push(7);

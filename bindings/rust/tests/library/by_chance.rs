@@ -1,8 +1,8 @@
 //! Pictures by chance: one call for a picture is classifying, building and running, one after the other.
-use crate::support::{counted, pixel, row_of, Slices, UNKNOWN};
+use crate::support::{counted, kept, pixel, row_of, Slices, UNKNOWN};
 use piet::{
-    build, classify, run, run_picture, run_pixels, Attempt, Cells, Colour, Edition, Error, Picture, Pictured,
-    Refusal, Shape, Skipped, Table, Terms, Told, Unknown, ROW,
+    build, classify, run, run_picture, run_pixels, Attempt, Cells, Colour, Edition, Error, Instruction,
+    Picture, Pictured, Refusal, Shape, Skipped, Table, Terms, Told, Unknown, EXITS, ROW,
 };
 use std::collections::BTreeSet;
 
@@ -251,4 +251,31 @@ fn visits_of_a_run() {
         listed += visited.unvisited;
     }
     assert!(met.into_iter().chain([listed]).all(|times| times > 1_000), "met {met:?}, listed {listed}");
+}
+
+/// Each exit is one of the region that the one before it led to, and under a smaller limit as many of them are taken.
+/// Slides are met, and every instruction.
+#[test]
+fn history_of_a_run() {
+    let (mut chance, mut met) = (Chance(12), BTreeSet::new());
+    for _ in 0..PICTURES {
+        let question = Question::by(&mut chance);
+        let mut slices = Slices::of(question.shape, question.cells);
+        let Ok(Pictured { ended, regions }) = in_three_calls(&question, &mut slices) else { continue };
+        let table = slices.table(regions);
+        let (_, taken) = kept(table, question.edition, question.terms(), question.cells);
+        let mut left = 0;
+        for exit in &taken {
+            assert!(table.exits[EXITS * left..][..EXITS].contains(&exit.cell()));
+            left = usize::from(exit.target);
+            met.insert(exit.instruction.number());
+        }
+        assert_eq!((left, taken.len() as u64), (ended.region, ended.steps));
+        for limit in 0..ended.steps {
+            let terms = Terms { limit, ..question.terms() };
+            let first = table.history(question.edition, terms, question.cells, usize::MAX).unwrap();
+            assert_eq!(first.taken, taken[..limit as usize]);
+        }
+    }
+    assert_eq!(met, Instruction::ALL.map(|instruction| instruction.number()).into());
 }

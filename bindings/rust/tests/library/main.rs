@@ -4,6 +4,7 @@ mod classifying;
 mod editions;
 mod errors;
 mod exits;
+mod history;
 mod labels;
 mod numbers;
 mod p6;

@@ -1,7 +1,8 @@
 //! What several tests share: pixels, terms, and the room of a picture's run.
 use piet::{
-    Cells, Colour, Edition, Output, PictureRoom, Refusal, RunRoom, Shape, Table, TableRoom, Terms, Unknown,
-    Visited, Visits, VisitsRoom, EXITS, ROW,
+    Cc, Cells, Colour, Dp, Edition, Ended, Exit, History, HistoryRoom, Instruction, Output, PictureRoom,
+    Pointers, Refusal, RunRoom, Shape, Table, TableRoom, Terms, Unknown, Visited, Visits, VisitsRoom, EXITS,
+    ROW,
 };
 
 /// What every lent cell holds before a call, to be found again where it stays.
@@ -12,6 +13,20 @@ pub const UNKNOWN: [u8; 3] = [1, 2, 3];
 
 pub const TERMS: Terms = Terms { limit: 3, abstract_mode: false, input: b"" };
 pub const CELLS: Cells = Cells { stack: 256, outputs: 256 };
+
+/// The pointers that a run starts with.
+pub const START: Pointers = Pointers { dp: Dp::Right, cc: Cc::Left };
+
+/// The rows of a table by hand, by their node marks.
+pub fn rows_marked(marks: &[u32]) -> Vec<u32> {
+    marks.iter().flat_map(|&mark| [6, 1, 0, 0, mark]).collect()
+}
+
+/// The exits of regions that are left by one way or by none.
+pub fn ways(ways: &[Option<(Instruction, u16)>]) -> Vec<u32> {
+    let cell = |(instruction, target)| Exit { target, pointers: START, instruction }.cell();
+    ways.iter().flat_map(|way| [way.map_or(0, cell), 0, 0, 0, 0, 0, 0, 0]).collect()
+}
 
 /// The bytes of a colour, as the page has them: a hue is made of the brighter byte in the one or two places that it
 /// has, and of the darker byte in the others.
@@ -123,6 +138,24 @@ impl Counting {
     }
 }
 
+/// The room of a run whose exits are kept, owned.
+#[derive(Clone, Debug, PartialEq, Eq)]
+pub struct Keeping {
+    pub run: Slices,
+    pub taken: Vec<u32>,
+}
+
+impl Keeping {
+    /// So many cells for exits, every cell with the pattern.
+    pub fn of(taken: usize, cells: Cells) -> Self {
+        Keeping { run: Slices::of(row_of(0), cells), taken: vec![PATTERN.into(); taken] }
+    }
+
+    pub fn lent(&mut self) -> HistoryRoom<'_> {
+        HistoryRoom { run: self.run.lent().run, taken: &mut self.taken }
+    }
+}
+
 /// The refusal of a call, which has to leave every slice as it was.
 pub fn refused<T: std::fmt::Debug>(
     mut slices: Slices,
@@ -181,4 +214,47 @@ pub fn counted(table: Table, edition: Edition, terms: Terms, cells: Cells) -> (V
     let made = Visits { ended, stack, outputs, counts: counts.to_vec(), unvisited: nodes };
     assert_eq!(table.visits(edition, terms, cells), Ok(made));
     (visited, counts.to_vec(), list.to_vec())
+}
+
+/// Where a run stopped whose exits are kept, with all of them. Whatever the table is: the run is that of `run`, in slices
+/// of any length the first exits are kept and the cells past them stay, with the room made it is all the same, and the
+/// exits lead to the regions that visits count.
+pub fn kept(table: Table, edition: Edition, terms: Terms, cells: Cells) -> (Ended, Vec<Exit>) {
+    let mut run = Slices::of(row_of(0), cells);
+    let ended = piet::run(table, edition, terms, run.lent().run).expect("an accepted table");
+    let steps = ended.steps as usize;
+
+    let in_cells = |length| {
+        let mut room = Keeping::of(length, cells);
+        assert_eq!(piet::history(table, edition, terms, room.lent()), Ok(ended));
+        assert_eq!(room.run, run);
+        room.taken
+    };
+    let all = in_cells(steps);
+    for length in [0, steps / 2, steps.saturating_sub(1), steps + 1, steps + 3] {
+        let past = length.saturating_sub(steps);
+        assert_eq!(in_cells(length), [&all[..length - past], &vec![PATTERN.into(); past]].concat());
+    }
+
+    let taken: Vec<Exit> = all.iter().map(|&cell| Exit::of(cell).expect("an exit")).collect();
+    let (stack, outputs) = (run.stack[..ended.depth].to_vec(), run.outputs(ended.outputs));
+    let made = |most: usize| {
+        let taken = taken[..most.min(steps)].to_vec();
+        Ok(History { ended, stack: stack.clone(), outputs: outputs.clone(), taken })
+    };
+    for most in [0, steps / 2, steps, steps + 1] {
+        assert_eq!(table.history(edition, terms, cells, most), made(most));
+    }
+    if let Ok(visits) = table.visits(edition, terms, cells) {
+        assert_eq!(entered(&taken, table.regions), visits.counts);
+    }
+    (ended, taken)
+}
+
+/// How often each region is entered by a run that takes these exits.
+fn entered(taken: &[Exit], regions: usize) -> Vec<u64> {
+    let mut counts = vec![0; regions];
+    counts[0] = 1;
+    taken.iter().for_each(|exit| counts[usize::from(exit.target)] += 1);
+    counts
 }

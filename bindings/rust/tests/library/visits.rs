@@ -1,8 +1,7 @@
 //! Visits: how often a run enters each region, and which nodes it never enters.
-use crate::support::{built_in, drawn, Counting, CELLS, TERMS};
+use crate::support::{built_in, drawn, rows_marked, ways, Counting, CELLS, TERMS};
 use piet::{
-    run, visits, Cc, Cells, Dp, Edition, Error, Exit, Instruction, Pointers, Refusal, Status, Table, Terms,
-    EXITS, MOST_CODELS, ROW,
+    run, visits, Cells, Edition, Error, Instruction, Refusal, Status, Table, Terms, EXITS, MOST_CODELS, ROW,
 };
 use Edition::{Page, Rust};
 use Instruction::{IntIn, IntOut, None as Nothing, Pop, Push};
@@ -10,19 +9,6 @@ use Instruction::{IntIn, IntOut, None as Nothing, Pop, Push};
 /// The limit that is refused, and the largest that is not.
 const NO_LIMIT: u64 = u64::MAX;
 const LARGEST: u64 = u64::MAX - 1;
-
-const START: Pointers = Pointers { dp: Dp::Right, cc: Cc::Left };
-
-/// The rows of a table by hand, by their node marks.
-fn rows_marked(marks: &[u32]) -> Vec<u32> {
-    marks.iter().flat_map(|&mark| [6, 1, 0, 0, mark]).collect()
-}
-
-/// The exits of regions that are left by one way or by none.
-fn ways(ways: &[Option<(Instruction, u16)>]) -> Vec<u32> {
-    let cell = |(instruction, target)| Exit { target, pointers: START, instruction }.cell();
-    ways.iter().flat_map(|way| [way.map_or(0, cell), 0, 0, 0, 0, 0, 0, 0]).collect()
-}
 
 /// Counts, list and the list's count, as the call leaves them.
 type Counts = (Vec<u64>, Vec<u32>, usize);

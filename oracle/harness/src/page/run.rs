@@ -2,7 +2,8 @@
 use super::commands::{Machine, Parting};
 use super::grid::{Codel, Grid, Pointers, Way};
 use super::op;
-use super::table::LOST;
+use super::table::{exit_number, LOST};
+use std::iter::zip;
 
 pub const COMPLETED: u32 = 1;
 pub const MAX_STEPS: u32 = 2;
@@ -25,6 +26,8 @@ pub struct End {
     pub region: usize,
     /// the regions that were entered, in their order: where the run starts, and where each step taken leads
     pub entered: Vec<usize>,
+    /// the exit of each step taken, in their order
+    pub taken: Vec<u32>,
     pub pointers: Pointers,
     /// bottom first
     pub stack: Vec<i64>,
@@ -125,7 +128,8 @@ fn run<P: Copy>(
     next: impl Fn(&P, Pointers) -> Next<P>,
     regions: impl Fn(&[P]) -> Vec<usize>,
 ) -> End {
-    let (mut machine, mut steps, mut entered) = (Machine::default(), 0, vec![place]);
+    let (mut machine, mut steps) = (Machine::default(), 0);
+    let (mut entered, mut moves) = (vec![place], vec![]);
     let (mut lost, mut parting) = (false, None);
     let status = loop {
         if steps == terms.limit {
@@ -134,7 +138,7 @@ fn run<P: Copy>(
         if machine.awaits {
             break NEEDS_INPUT;
         }
-        let (to, long, after) = match next(&place, machine.pointers) {
+        let (to, by, long, after) = match next(&place, machine.pointers) {
             Next::Nowhere => break COMPLETED,
             Next::Lost => {
                 lost = true;
@@ -142,7 +146,8 @@ fn run<P: Copy>(
                 break COMPLETED;
             }
             Next::Step { to, by, command, size, long } => {
-                (to, long, machine.stepped(by, (command, size), terms))
+                let after = machine.stepped(by, (command, size), terms);
+                (to, (by, command), long, after)
             }
         };
         match after {
@@ -150,6 +155,7 @@ fn run<P: Copy>(
             Ok(after) => (place, machine) = (to, after),
         }
         entered.push(place);
+        moves.push(by);
         let what = if long { Some(Parting::LongSlide) } else { machine.parting };
         parting = parting.or(what.map(|what| (steps, what)));
         steps += 1;
@@ -157,5 +163,20 @@ fn run<P: Copy>(
     let Machine { pointers, stack, outputs, used, skipped, .. } = machine;
     let entered = regions(&entered);
     let region = entered[steps as usize];
-    End { status, steps, region, entered, pointers, stack, outputs, used, skipped, lost, parting }
+    let exits = zip(&entered[1..], moves).map(|(&to, (by, command))| exit_number(to, by, command));
+    let taken = exits.collect();
+    End {
+        status,
+        steps,
+        region,
+        entered,
+        taken,
+        pointers,
+        stack,
+        outputs,
+        used,
+        skipped,
+        lost,
+        parting,
+    }
 }

@@ -1,5 +1,6 @@
 //! The whole table of a picture.
 use super::grid::{Codel, Grid, Landing, Pointers, Way};
+use super::op;
 
 /// The exit of an attempt whose slide is lost, one above the largest of the others.
 pub const LOST: u32 = 9_437_185;
@@ -121,14 +122,19 @@ impl<'a> Regions<'a> {
             Way::Shut => 0,
             Way::Beside(to) => {
                 let command = self.grid.command(self.codels[region][0], to);
-                1 + self.region(to) as u32 + 65_536 * state + 524_288 * command as u32
+                exit_number(self.region(to), Pointers::numbered(state), command)
             }
             Way::Across { landing: None, .. } => LOST,
             Way::Across { landing: Some(Landing { at, by, .. }), .. } => {
-                1 + self.region(at) as u32 + 65_536 * by.number()
+                exit_number(self.region(at), by, op::NONE)
             }
         })
     }
+}
+
+/// The exit of a move to a region, with the pointers before its command.
+pub fn exit_number(to: usize, by: Pointers, command: u8) -> u32 {
+    1 + to as u32 + 65_536 * by.number() + 524_288 * command as u32
 }
 
 fn end_of(leads: &[usize], mut at: usize) -> usize {

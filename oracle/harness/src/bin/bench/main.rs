@@ -7,6 +7,8 @@ mod classifying;
 mod files;
 #[allow(dead_code, reason = "a part alone uses some of it")]
 mod inputs;
+#[cfg(feature = "history")]
+mod recording;
 #[cfg(feature = "roll")]
 mod rolling;
 #[cfg(feature = "run")]
@@ -34,6 +36,8 @@ const PARTS: &[(&str, &str, fn())] = &[
     ("slide", "", sliding::measure),
     #[cfg(feature = "visits")]
     ("visits", "", visiting::measure),
+    #[cfg(feature = "history")]
+    ("history", "", recording::measure),
 ];
 
 fn main() {

@@ -15,13 +15,12 @@ pub fn fastest<T>(mut f: impl FnMut() -> T) -> f64 {
     best
 }
 
-/// Seconds of the fastest call of each, made by turns, so that both have the same of what else the machine does.
-#[cfg(feature = "visits")]
-pub fn fastest_by_turns(mut one: impl FnMut(), mut other: impl FnMut()) -> [f64; 2] {
-    let (begun, mut best) = (Instant::now(), [f64::INFINITY; 2]);
-    while begun.elapsed() < 4 * ENOUGH {
-        let calls: [&mut dyn FnMut(); 2] = [&mut one, &mut other];
-        for (call, best) in calls.into_iter().zip(&mut best) {
+/// Seconds of the fastest call of each, made by turns, so that all have the same of what else the machine does.
+#[cfg(any(feature = "visits", feature = "history"))]
+pub fn fastest_by_turns<const N: usize>(mut calls: [&mut dyn FnMut(); N]) -> [f64; N] {
+    let (begun, mut best) = (Instant::now(), [f64::INFINITY; N]);
+    while begun.elapsed() < 2 * N as u32 * ENOUGH {
+        for (call, best) in calls.iter_mut().zip(&mut best) {
             let start = Instant::now();
             call();
             *best = best.min(start.elapsed().as_secs_f64());

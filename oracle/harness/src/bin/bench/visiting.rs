@@ -21,10 +21,10 @@ fn visits(name: &str, picture: &Picture) {
     let mut lent =
         Counting { space: space(), visits: vec![0; table.n], unvisited: vec![0; table.n] };
     let mut counted = [0; VISITS_ANSWER];
-    let [run, visits] = fastest_by_turns(
-        || assert_eq!(library::run(&table, RUST, &terms, &mut ran, &mut answer), 0),
-        || assert_eq!(library::visits(&table, RUST, &terms, &mut lent, &mut counted), 0),
-    );
+    let [run, visits] = fastest_by_turns([
+        &mut || assert_eq!(library::run(&table, RUST, &terms, &mut ran, &mut answer), 0),
+        &mut || assert_eq!(library::visits(&table, RUST, &terms, &mut lent, &mut counted), 0),
+    ]);
     assert_eq!(answer[..2], [2, STEPS], "the run goes on to its limit");
     assert_eq!(counted[..RUN_ANSWER], answer, "it is the same run");
     assert_eq!(lent.visits.iter().sum::<u64>(), STEPS + 1, "each step and the start count");

@@ -1,4 +1,7 @@
 //! compare: the archive against the Rust, and against the model of the second edition, at scale. Exits with 1 at the first difference.
+#[cfg(any(feature = "visits", feature = "history"))]
+#[allow(dead_code, reason = "a part alone uses some of it")]
+mod altered;
 #[cfg(feature = "build")]
 mod building;
 #[allow(dead_code, reason = "a part alone uses some of it")]
@@ -15,8 +18,10 @@ mod modelled;
 mod page;
 #[cfg(feature = "picture")]
 mod picturing;
-#[cfg(any(feature = "page", feature = "visits"))]
+#[cfg(any(feature = "page", feature = "visits", feature = "history"))]
 mod questions;
+#[cfg(feature = "history")]
+mod recording;
 #[cfg(feature = "roll")]
 mod rolling;
 #[cfg(feature = "run")]
@@ -45,6 +50,8 @@ const PARTS: &[(&str, fn() -> Checked)] = &[
     ("run", running::compare),
     #[cfg(feature = "visits")]
     ("visits", visiting::compare),
+    #[cfg(feature = "history")]
+    ("history", recording::compare),
     #[cfg(feature = "roll")]
     ("roll", rolling::compare),
     #[cfg(feature = "picture")]

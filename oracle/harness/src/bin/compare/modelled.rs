@@ -84,10 +84,11 @@ fn without_long(model: &Built, short: &Table) -> Table {
     Table { map: model.map.clone(), rows: rows.collect(), exits: exits.collect() }
 }
 
-/// The numbers, the stack, a kind and a value for each output, and the regions entered.
+/// The numbers, the stack, a kind and a value for each output, the regions entered, and the exits taken.
 fn flat(left: &Left) -> Vec<i64> {
     let numbers = left.numbers.iter().map(|&n| n as i64);
     let outputs = left.outputs.iter().flat_map(|&(kind, value)| [kind.into(), value]);
     let entered = left.entered.iter().map(|&region| region as i64);
-    numbers.chain(left.stack.iter().copied()).chain(outputs).chain(entered).collect()
+    let moved = entered.chain(left.taken.iter().map(|&exit| exit.into()));
+    numbers.chain(left.stack.iter().copied()).chain(outputs).chain(moved).collect()
 }

@@ -107,7 +107,7 @@ pub fn write(left: &Left, space: &mut Space) {
     over(&values, &mut space.values);
 }
 
-fn outcome(number: u32, answer: &[u64], space: &Space) -> Outcome {
+pub fn outcome(number: u32, answer: &[u64], space: &Space) -> Outcome {
     let told = [("number", vec![number.into()]), ("answer", bits(answer))];
     Outcome(told.into_iter().chain(cells(space)).collect())
 }
@@ -125,7 +125,7 @@ impl Running {
         Running { question, editions, spoil: Spoil::None, longer: [0, 0], answer: RUN_ANSWER }
     }
 
-    fn space(&self) -> Space {
+    pub fn space(&self) -> Space {
         space(&self.question.room, self.longer)
     }
 

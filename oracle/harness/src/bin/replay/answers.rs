@@ -5,6 +5,7 @@ use harness::picture::Built;
 use harness::question::Question;
 use harness::visits::Visits;
 use std::fmt::Display;
+use std::iter::zip;
 
 pub fn table(asked: &Asked) -> String {
     let Some(built) = editions::table(&asked.picture, asked.edition) else {
@@ -61,10 +62,17 @@ fn by_residue(question: &Question) -> Option<Question> {
     Some(Question { input, ..question.clone() })
 }
 
-/// What the run leaves, and how often it entered each region of its table.
+/// What the run leaves, how often it entered each region of its table, and the exits that it took.
 fn run_lines(built: &Built, left: &Left) -> String {
     let marks: Vec<u32> = built.rows.iter().map(|row| row[4]).collect();
-    run_line(left) + &visits_line(&Visits::of(&left.entered, &marks))
+    run_line(left) + &visits_line(&Visits::of(&left.entered, &marks)) + &history_line(&left.taken)
+}
+
+/// The first exits, in cells that held one to a region that no table here has.
+fn history_line(taken: &[u32]) -> String {
+    let mut cells = [9_999; 12];
+    zip(&mut cells, taken).for_each(|(cell, &exit)| *cell = exit);
+    "history ".to_string() + &sections([&cells])
 }
 
 fn visits_line(visits: &Visits) -> String {

@@ -1,17 +1,16 @@
-use Prim.Native.Nat.{_-_, _≤_}
-use borrow.Author.Needs.{needs}
+-- `stored::print_cells` meets its contract: each cell is printed.
+-- Assumes nothing.
+use Prim.Native.Nat.{_≤_, _-_}
 use lib.ListN.{length}
-use Rattle.c_calls.proofs.print_cells.Statement.{statement}
-use Rattle.c_calls.proofs.print_cells.Tie as tie
+use borrow.Author.Needs.{needs}
+use Rattle.stored.proofs.print_cells.Statement.{statement}
+use Rattle.stored.proofs.print_cells.Tie as tie
 
 abbrev Inv-loop : tie.InvT-loop
-Inv-loop name cells i₀ t4 i = i ≤ length cells
+Inv-loop cells i₀ i = i ≤ length cells
 
 abbrev μ-loop : tie.MeasureT-loop
-μ-loop name cells i₀ t4 i = length cells - i
-
-write-all-requires : tie.Need-write-all-requires Inv-loop μ-loop
-write-all-requires c κs = search needs
+μ-loop cells i₀ i = length cells - i
 
 loop-holds : tie.Need-loop-holds Inv-loop μ-loop
 loop-holds c = search needs
@@ -34,12 +33,6 @@ loop-less c = search needs
 loop-again : tie.Need-loop-again Inv-loop μ-loop
 loop-again c = search needs
 
-slice-aggregate-write-all : tie.Need-slice-aggregate-write-all Inv-loop μ-loop
-slice-aggregate-write-all c = search needs
-
-write-all-requires-2 : tie.Need-write-all-requires-2 Inv-loop μ-loop
-write-all-requires-2 c κs = search needs
-
 returns : tie.Need-returns Inv-loop μ-loop
 returns c = search needs
 
@@ -49,7 +42,6 @@ print-cells-spec =
     (tie.spec
     Inv-loop
     μ-loop
-    write-all-requires
     loop-holds
     mul-print-cell
     shared-slice-read-print-cell
@@ -57,6 +49,4 @@ print-cells-spec =
     add-i
     loop-less
     loop-again
-    slice-aggregate-write-all
-    write-all-requires-2
     returns)

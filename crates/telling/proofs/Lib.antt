@@ -1,0 +1,8 @@
+-- Laws that belong to no one function.
+pub mod CountLaws
+pub mod StackLaws
+pub mod CharLaws
+pub mod OutputLaws
+pub mod LineLaws
+pub mod PartLaws
+pub mod Examples

@@ -1,0 +1,6 @@
+-- Laws that belong to no one function.
+pub mod StepLaws
+pub mod Telling
+pub mod Ending
+pub mod Walking
+pub mod Tracing
