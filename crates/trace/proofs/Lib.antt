@@ -4,3 +4,4 @@ pub mod Telling
 pub mod Ending
 pub mod Walking
 pub mod Tracing
+pub mod Only

@@ -45,11 +45,11 @@ module _ {p : Picture} {map rows exits : List ℕ} {n : ℕ} (S : Sound p) (g : 
       let history = moveBy (m .region) x ∷ s .history in
       let steps : suc (length (s .history)) ≡ m′ .steps = omega (arith, k .counted, s .counted) in
       let here : (w : Walk p map g room history (targetOf x) (m′ .store))
-          × Lines history (targetOf x) (m′ .store) w (text ++ moveLine (suc (length (s .history))) label (opOf x) (m .store) (m′ .store)) =
-          (moves (s .walk) (k .unawaited) (v .first) (v .kept), trace.more (s .lines) (labelled (m .region) (s .stands .inside))) in
+      × Lines history (targetOf x) (m′ .store) w (text ++ moveLine (suc (length (s .history))) label (opOf x) (m .store) (m′ .store)) =
+      (moves (s .walk) (k .unawaited) (v .first) (v .kept), trace.more (s .lines) (labelled (m .region) (s .stands .inside))) in
       let there =
-          subst (λ (r : ℕ). (w : Walk p map g room history r (m′ .store)) × Lines history r (m′ .store) w (text ++ moveLine (m′ .steps) label (opOf x) (m .store) (m′ .store))) (sym (k .region))
-          (subst (λ (i : ℕ). (w : Walk p map g room history (targetOf x) (m′ .store)) × Lines history (targetOf x) (m′ .store) w (text ++ moveLine i label (opOf x) (m .store) (m′ .store))) steps here) in
+      subst (λ (r : ℕ). (w : Walk p map g room history r (m′ .store)) × Lines history r (m′ .store) w (text ++ moveLine (m′ .steps) label (opOf x) (m .store) (m′ .store))) (sym (k .region))
+      (subst (λ (i : ℕ). (w : Walk p map g room history (targetOf x) (m′ .store)) × Lines history (targetOf x) (m′ .store) w (text ++ moveLine i label (opOf x) (m .store) (m′ .store))) steps here) in
       record {
         history = history;
         stands = step-walks S g B room (s .stands) k;

@@ -1,0 +1,2 @@
+-- The program's response is one.
+pub mod Only
