@@ -1,1 +1,1 @@
-"""The parts of tools/job: colours, jobs as bytes, settings, text grids, PPM pictures, and how a file becomes a job."""
+"""The parts of tools/job: colours, jobs as bytes, settings, text grids, PPM pictures, files becoming jobs, shades."""

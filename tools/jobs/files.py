@@ -61,10 +61,12 @@ def put(text):
         raise Wrong(f"standard output: {error.strerror}") from None
 
 
-def read_bytes(name):
+def read_bytes(file, name=None):
+    """The bytes of a file by its name; or of an open one by its number, with a name for messages."""
+    name = name or file
     try:
-        with open(name, "rb") as file:
-            data = file.read(MOST_BYTES + 1)
+        with open(file, "rb") as opened:
+            data = opened.read(MOST_BYTES + 1)
     except OSError as error:
         raise Wrong(f"{name}: {error.strerror}") from None
     if len(data) > MOST_BYTES:

@@ -1,9 +1,11 @@
--- The worked job (rule 13.8) on its table, and the order of the stops (rule 8.2), by computation. Assumes nothing.
-use mathlib.Core.Path.{_≡_, refl}
+-- The worked job (rule 13.8) on its table, its exits, and the order of the stops (rule 8.2), by computation. Assumes nothing.
+use mathlib.Core.Path.{_≡_, refl, ap, _∙_}
 use mathlib.Core.Bool.{Bool, true, false}
 use mathlib.Core.List.{List, [], _∷_, _++_}
 use Prim.Native.Nat.{ℕ}
+use native.Mathlib.Omega.{arith}
 use lib.IntN.{pos}
+use Rattle.base.specs.Lent.{lent}
 use Rattle.base.specs.Numbers.{Numbers, numbers, first}
 use Rattle.flow.specs.Pointer.{attemptOf}
 use Rattle.text.specs.Utf8.{scalars, encodes}
@@ -12,12 +14,18 @@ use Rattle.text.specs.Input.{intOf, pushOrSkip}
 use Rattle.text.specs.Reading.{chars, same, valid, takeOf}
 use Rattle.stack.specs.Instr.{pop}
 use Rattle.machine.specs.Counts.{indexOf, one, oneMore, counted}
-use Rattle.machine.specs.Machine.{Asks, asks, statusOf, take, read, exec, fitting}
+use Rattle.machine.specs.Place.{start}
+use Rattle.machine.specs.Machine.{Asks, asks, givenOf, statusOf, take, read, exec, fitting}
 use Rattle.machine.specs.Held.{Slices, slices}
 use Rattle.interpreter.specs.Table.{openFrom, any, every}
 use Rattle.interpreter.specs.Forever as Forever
 use Rattle.interpreter.specs.Run.{arrive, after, runOf}
-use Rattle.interpreter.specs.Outcome.{refused, answer, leftOf}
+use Rattle.interpreter.specs.declared.Ran.{Ran}
+use Rattle.interpreter.specs.History.{History, stays, passes}
+use Rattle.interpreter.specs.Outcome.{refused, jobOf, endOf, answer, leftOf}
+use Rattle.interpreter.specs.Recorded.{takenOf, Recorded}
+use Rattle.interpreter.proofs.Histories.{history-only}
+use Rattle.interpreter.proofs.Answering.{recorded}
 
 -- light red beside red, with the exits of rule 7.3's example
 abbrev rows : List ℕ
@@ -43,6 +51,21 @@ pub job : (answer 2 rows exits (with 3 false) used ≡ told (2 ∷ 3 ∷ 1 ∷ 0
     × (leftOf 2 rows exits (with 3 false) used ≡ slices (pos 1 ∷ pos 0 ∷ pos 0 ∷ []) (0 ∷ []) (pos 0 ∷ pos 0 ∷ []))
 unfolding attemptOf pop statusOf exec fitting openFrom any arrive after runOf first
 job = (refl, refl)
+
+-- its exits, in more cells than it has steps, and in fewer (rule 18.1)
+pub kept : {r : Ran} {l′ : Slices} {t : List ℕ}
+    → (Recorded 2 rows exits (with 3 false) used (7 ∷ 7 ∷ 7 ∷ 7 ∷ []) r l′ t → t ≡ 524290 ∷ 1310721 ∷ 524290 ∷ 7 ∷ [])
+    × (Recorded 2 rows exits (with 3 false) used (7 ∷ 7 ∷ []) r l′ t → t ≡ 524290 ∷ 1310721 ∷ [])
+unfolding attemptOf pop exec fitting openFrom any arrive after runOf first lent
+kept = (
+  λ o. recorded 2 rows exits (with 3 false) used (7 ∷ 7 ∷ 7 ∷ 7 ∷ []) o refl ∙ ap (λ (ws : List ℕ). takenOf ws (7 ∷ 7 ∷ 7 ∷ 7 ∷ [])) (three-exits (o .history)),
+  λ o. recorded 2 rows exits (with 3 false) used (7 ∷ 7 ∷ []) o refl ∙ ap (λ (ws : List ℕ). takenOf ws (7 ∷ 7 ∷ [])) (three-exits (o .history)),
+)
+  where
+    three-exits : (h : History (jobOf rows exits (givenOf (with 3 false)) used) 3 start (endOf rows exits (givenOf (with 3 false)) used))
+        → h .exits ≡ 524290 ∷ 1310721 ∷ 524290 ∷ []
+    three-exits h =
+        history-only (jobOf rows exits (givenOf (with 3 false)) used) (h .passes) (passes refl (passes refl (passes refl stays))) (omega (arith, h .counted)) .0
 
 -- the same table taken for one of 1 region: an exit leads to region 1, which is refused, and nothing changes
 pub job-refused : (answer 1 rows exits (with 3 false) used ≡ refused 10)
