@@ -56,7 +56,7 @@ struct run {
 static const char *const dps[] = {"right", "down", "left", "up"};
 static const char *const ccs[] = {"left", "right"};
 static const char *const instructions[] = {
-    "nothing", "Push", "Pop", "Add", "Sub",  "Mul",    "Div",     "Mod",   "Not",
+    "none", "Push", "Pop", "Add", "Sub",  "Mul",    "Div",     "Mod",   "Not",
     "Gt",      "Ptr",  "Swi", "Dup", "Roll", "CharIn", "CharOut", "IntIn", "IntOut",
 };
 

@@ -46,7 +46,7 @@ finish r z (running.refused k v h q) = absurd (refusing.refused k v _ (sym q ∙
 finish r z (running.done {e} none R) = record { end = e; is = cc; none = none; runs = R; counted = cc }
 
 -- a refusal's number
-refusal-is : {a : Asked} {l l′ : Lends} {n y x : ℕ} (r : Pictured) → r ≡ Refused n y x → running.Outcome a l r l′
+pub refusal-is : {a : Asked} {l l′ : Lends} {n y x : ℕ} (r : Pictured) → r ≡ Refused n y x → running.Outcome a l r l′
     → (k : ℕ) × (v : List ℕ) × (n ≡ suc k) × (running.refusalOf a l ≡ numbers (suc k) v)
 refusal-is r z (running.refused k v h q) = (k, v, (let e = sym (ap running.numbered z) ∙ q in cc), h)
 refusal-is r z (running.done none R) = clash (cc)

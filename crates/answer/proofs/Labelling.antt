@@ -24,7 +24,8 @@ module _ (colour r c : ℕ) (before : List ℕ) (h : Legal colour r c) (room : 2
   pub label-given : {after : List ℕ} → Outcome colour r c before Label after → ⊥
   label-given o = refusals.refused 11 _ _ (o .answers ∙ not-refused)
 
-  pub label-starts : {after : List ℕ} {n : ℕ} → Outcome colour r c before (Done n) after → Starts after n (labelOf colour r c) × (n ≤ 22)
+  pub label-starts : {after : List ℕ} {n : ℕ} → Outcome colour r c before (Done n) after
+      → Starts after n (labelOf colour r c) × (n ≤ 22) × (after ≡ lent (padded (labelOf colour r c)) before)
   unfolding lent padded
   label-starts {after} {n} o =
       let text = labelOf colour r c in
@@ -37,14 +38,14 @@ module _ (colour r c : ℕ) (before : List ℕ) (h : Legal colour r c) (room : 2
       let few = label-length colour r c (h .row-in) (h .column-in) in (
         record { within = omega arith; is = ap (take n) is ∙ take-at text (zeros ++ rest) n (sym size) },
         omega arith,
+        o .leaves,
       )
 
 -- the part that the label takes is no longer than 22 bytes
-pub part-fits : {d text : List ℕ} {n room depth cells count kinds numbers : ℕ} → Starts d n text × (n ≤ 22)
+pub part-fits : {d text : List ℕ} {n room depth cells count kinds numbers : ℕ} → Starts d n text → n ≤ 22
     → Fits room 22 depth cells count kinds numbers → Fits room (length (take n d)) depth cells count kinds numbers
-part-fits {d} {n = n} s f =
-    let l : length (take n d) ≡ n = length-take-le n d (s .0 .within) in
-    let k = s .1 in
+part-fits {d} {n = n} s k f =
+    let l : length (take n d) ≡ n = length-take-le n d (s .within) in
     record {
       roomy = f .roomy;
       brief = omega arith;

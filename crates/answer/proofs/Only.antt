@@ -23,7 +23,7 @@ use Rattle.job.specs.Encoding.{Content}
 use Rattle.job.proofs.Only.{content-only}
 use Rattle.report.specs.Text.{refusalText}
 use Rattle.answer.specs.Program.{askedOf, refusalOf, runRoom, Ran, Labels, Answers, no-job, refused, ran, Printed, short, printed}
-use Rattle.answer.specs.Answer.{Result, Outcome, endText}
+use Rattle.answer.specs.Answer.{Result, Outcome}
 use Rattle.answer.proofs.Ending.{enough}
 
 pub labels-only : {p : Picture} {map : List ℕ} {r : ℕ} {x y : List ℕ} → Labels p map r x → Labels p map r y → x ≡ y

@@ -1,4 +1,4 @@
--- Inner: what the helpers of `answer` promise. Assumes nothing.
+-- Inner: what the helpers of `answer` promise, and when a region of a table has a label. Assumes nothing.
 use mathlib.Core.Path.{_≡_}
 use mathlib.Core.List.{List}
 use Prim.Native.Nat.{ℕ, _≤_, _<_}

@@ -47,7 +47,7 @@ pub record Labels (p : Picture) (map : List ℕ) (r : ℕ) (label : List ℕ) : 
   pub is-first : First map (codels p) r first
   pub is : label ≡ labelOf (codelColour p first) (first / colsOf p * p .codel) (first % colsOf p * p .codel)
 
--- `Shows c text`: this text is shown for a job that is run
+-- `Shows c text`: this text is shown for a job that is not refused
 module _ (Shows : Content → List ℕ → Type 0) where
   -- the text that is printed for a list of bytes
   pub data Answers (job : List ℕ) : List ℕ → Type 0 where
@@ -64,7 +64,7 @@ module _ (Shows : Content → List ℕ → Type 0) where
     pub size : r ≡ length text
     pub list : after ≡ lent text before
 
-  -- what a call answers and leaves: nothing where there is too little room for the longest text
+  -- what a call answers and leaves: nothing where there is less room than is asked for
   pub data Printed (room : ℕ) (job before : List ℕ) (r : ℕ) (after : List ℕ) : Type 0 where
     short : length before < room → r ≡ 0 → after ≡ before → Printed room job before r after
     printed : room ≤ length before → Prints job before r after → Printed room job before r after

@@ -1,11 +1,12 @@
 // The run program's answer to a job: the text that it prints, in a lent slice.
+ghost use mathlib.Core.Path.{_≡_};
 ghost use Prim.Native.Nat.{_≤_};
 ghost use lib.ListN.{length};
-ghost use Rattle.base.specs.Lent.{Put};
-ghost use Rattle.colour.specs.Label.{labelOf};
+ghost use Rattle.base.specs.Lent.{Put, lent};
+ghost use Rattle.colour.specs.Label.{labelOf, padded};
 ghost use Rattle.piet.specs.RunPicture as running;
 ghost use Rattle.piet.specs.RunPicture.{lends};
-ghost use Rattle.job.specs.Outcome.{Reads, contentOf};
+ghost use Rattle.job.specs.Outcome.{LaidOut, Reads, contentOf};
 ghost use Rattle.answer.specs.Program.{askedOf, Prints};
 ghost use Rattle.answer.specs.Answer.{Result, Outcome};
 ghost use Rattle.answer.specs.Printing.{Starts, Legal, HasLabel, labelIn, linesOf, Printable};
@@ -31,7 +32,7 @@ const ROOM: usize = 16384;
 // The label of a region by its row's numbers, at the start of out, and its length.
 fn put_label(colour: u32, row: u32, column: u32, out: &mut [u8]) -> usize
     requires { ⌜ Legal colour row column × (22 ≤ length (now out)) ⌝ }
-    ensures { λ r. ⌜ Starts (now (out .exit)) r (labelOf colour row column) × (r ≤ 22) ⌝ }
+    ensures { λ r. ⌜ Starts (now (out .exit)) r (labelOf colour row column) × (r ≤ 22) × (now (out .exit) ≡ lent (padded (labelOf colour row column)) (now (out .entry))) ⌝ }
 {
     let Labelled::Done { length } = colour::label::label(
         colour as u8,
@@ -48,7 +49,7 @@ fn put_label(colour: u32, row: u32, column: u32, out: &mut [u8]) -> usize
 // The label of a region of the table.
 pub fn label_region(rows: &[u32], region: usize, out: &mut [u8]) -> usize
     requires { ⌜ HasLabel (now rows) region × (22 ≤ length (now out)) ⌝ }
-    ensures { λ r. ⌜ Starts (now (out .exit)) r (labelIn (now (rows .entry)) region) × (r ≤ 22) ⌝ }
+    ensures { λ r. ⌜ Starts (now (out .exit)) r (labelIn (now (rows .entry)) region) × (r ≤ 22) × (now (out .exit) ≡ lent (padded (labelIn (now (rows .entry)) region)) (now (out .entry))) ⌝ }
 {
     let colour = rows[row_cell(region, COLOUR)];
     let row = rows[row_cell(region, FIRST_ROW)];
@@ -85,7 +86,7 @@ fn put_ended(
     put_result(out, f, &label[..n], stack, kinds, values)
 }
 
-// The run that a job asks for: unknown pixels refused, edition 1, its pixels and its input as parts of the job.
+// The run of a job's picture, as `p` says: unknown pixels refused, edition 1, its pixels and its input as parts of the job.
 pub fn run_parts(
     job: &[u8],
     p: Parts,
@@ -98,7 +99,7 @@ pub fn run_parts(
     kinds: &mut [u8],
     values: &mut [i64],
 ) -> Pictured
-    requires { ⌜ Reads (now job) p ⌝ }
+    requires { ⌜ LaidOut (now job) p ⌝ }
     ensures { λ r. ⌜ running.Outcome (askedOf (contentOf (now (job .entry)) p)) (lends (now (colours .entry)) (now (map .entry)) (now (rows .entry)) (now (exits .entry)) (now (work .entry)) (now (stack .entry)) (now (kinds .entry)) (now (values .entry))) r (lends (now (colours .exit)) (now (map .exit)) (now (rows .exit)) (now (exits .exit)) (now (work .exit)) (now (stack .exit)) (now (kinds .exit)) (now (values .exit))) ⌝ }
 {
     let pixels = p.pixels;

@@ -1,7 +1,7 @@
 -- Two outcomes that a contract allows for one input are equal, answer and every lent list, for each public function:
 --     run                       run-only
 --     run_history               recorded-only
---     resume                    resume-only
+--     resume, step              resume-only, step-only
 --     run_observed              run-observed-only
 --     determine_runs_forever    forever-only
 --     valid                     `equation-only` of base's proofs/Only.antt
@@ -25,6 +25,8 @@ use Rattle.base.specs.Numbers.{Numbers, numbers, numberOf, valuesOf, row, first
 use Rattle.base.proofs.Over.{lent-front, lent-past}
 use Rattle.base.specs.Counting.{count}
 use Rattle.table.specs.ExitNumber.{targetOf}
+use Rattle.base.proofs.Clash.{clash}
+use Rattle.machine.specs.declared.Stop.the-variants.{MaxSteps}
 use Rattle.machine.specs.Machine.{Given, Asks, givenOf}
 use Rattle.machine.specs.Place.{Machine, End}
 use Rattle.machine.specs.Held.{Slices}
@@ -36,9 +38,12 @@ use Rattle.interpreter.specs.declared.Forever.{Forever}
 use Rattle.interpreter.specs.declared.Forever.the-variants.{Refused, Yes, No}
 use Rattle.interpreter.specs.Table.{wrongTable, validOf, every}
 use Rattle.interpreter.specs.Forever as Always
-use Rattle.interpreter.specs.Run.{Job}
-use Rattle.interpreter.specs.Outcome.{refused, numbered, jobOf, answer, Outcome}
-use Rattle.interpreter.specs.Resume.{Resumed, Started}
+use Rattle.interpreter.specs.declared.stepping.Moved.{Moved}
+use Rattle.interpreter.specs.declared.stepping.Moved.the-variants.{To, Halted}
+use Rattle.interpreter.specs.Run.{Job, goes}
+use Rattle.interpreter.specs.Outcome.{refused, numbered, slicesOf, placeOf, jobOf, answer, Outcome}
+use Rattle.interpreter.specs.Resume.{machineOf, Placed, Resumed, Started}
+use Rattle.interpreter.specs.Moving.{nextOf, After, Stepped}
 use Rattle.interpreter.specs.Recorded.{takenOf, Recorded}
 use Rattle.interpreter.specs.Observed.{Observed, ObservedAll}
 use Rattle.interpreter.proofs.Histories.{histories-same}
@@ -125,6 +130,31 @@ module _ (n : ℕ) (rows exits : List ℕ) (g : Given) (l : Slices) (from : Stat
       let a = settled n _ l′ l r h p in
       let b = settled n _ l″ l r′ k q in
       (a .0 ∙ sym (b .0), a .1 ∙ sym (b .1))
+
+-- where a step comes to, and the slices there
+module _ (n : ℕ) (rows exits : List ℕ) (g : Given) (l : Slices) (at : State) where
+  -- a place with its slices is that of the machine that they hold
+  placed-only : {l′ : Slices} {at′ : State} {m : Machine} → AsLong l′ l → Placed n l′ at′ → machineOf l′ at′ ≡ m → (at′ ≡ placeOf m) × (l′ ≡ slicesOf l (m .store))
+  placed-only {l′} {at′} {m} h p e =
+      let s = settled n (record { stop = MaxSteps; at = m }) l′ l (record { stop = MaxSteps; at = at′ }) h (record { placed = p; stop = refl; at = e }) in
+      (ap (λ (x : Ended). x .at) (s .0), s .1)
+
+  pub step-only : {l′ l″ : Slices} (r r′ : Moved) → AsLong l′ l → AsLong l″ l → Stepped n rows exits g l at l′ r → Stepped n rows exits g l at l″ r′
+      → (r ≡ r′) × (l′ ≡ l″)
+  unfolding nextOf After
+  step-only {l′} {l″} (To a i) (To b j) h k p q =
+      let same : machineOf l′ a ≡ machineOf l″ b = reached-same (p .is ∙ sym (q .is)) in
+      let x = placed-only h (p .leaves .0) refl in
+      let y = placed-only k (q .leaves .0) (sym same) in
+      let place : a ≡ b = x .0 ∙ sym (y .0) in
+      let exit : i ≡ j = p .leaves .2 ∙ sym (q .leaves .2) in
+      (λ t. To (place t) (exit t), x .1 ∙ sym (y .1))
+    where
+      reached-same : {m m′ : Machine} → goes m ≡ goes m′ → m ≡ m′
+      reached-same e = cc
+  step-only (To a i) (Halted s) h k p q = let z = p .is ∙ sym (q .is) in clash cc
+  step-only (Halted s) (To a i) h k p q = let z = p .is ∙ sym (q .is) in clash cc
+  step-only (Halted s) (Halted t) h k p q = let z = p .is ∙ sym (q .is) in let same : s ≡ t = cc in (ap Halted same, p .leaves ∙ sym (q .leaves))
 
 -- a run is observed in one way
 observed-only : {j : Job} {k : ℕ} {m : Machine} {e : End} {v v′ v″ t t′ t″ : List ℕ} → length v′ ≡ length v → length v″ ≡ length v

@@ -51,7 +51,7 @@ fn keep_exit(taken: &mut [u32], made: u64, exit: u32)
 }
 
 // Steps from a place until a stop; each that is taken is a visit of the region that it reaches, and its exit is kept. This is the one
-// loop of every run: with a second one a step would be a call of its own, and take three times as long.
+// loop of every call of a run: with a second one a step would be a call of its own, and take three times as long.
 fn resume_observed(
     n: usize,
     rows: &[u32],

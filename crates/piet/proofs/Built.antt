@@ -46,7 +46,7 @@ use Rattle.interpreter.specs.declared.Ran.the-variants.{Finished}
 use Rattle.interpreter.specs.Table.{wrongMark, wrongExit, wrongExits, validOf}
 use Rattle.interpreter.specs.Outcome.{Outcome, endedOf, slicesOf, jobOf, endOf}
 use Rattle.interpreter.specs.History.{History, regionsOf}
-use Rattle.interpreter.specs.Recorded.{takenOf, Recorded}
+use Rattle.interpreter.specs.Recorded.{Recorded}
 use Rattle.interpreter.specs.Resume.{Started, Resumed}
 use Rattle.interpreter.proofs.ValidLaws.{any-nowhere}
 use Rattle.interpreter.proofs.Answering.{answer-right, finishes, recorded}

@@ -1,4 +1,4 @@
--- The text that the run program prints (rules 13.5, 13.6). Each line ends with a newline. Assumes nothing.
+-- The text that the run program prints (rules 13.5, 13.6), by words that a trace has too. Each line ends with a newline. Assumes nothing.
 use mathlib.Core.Bool.{cond}
 use mathlib.Core.List.{List, [], _∷_, _++_}
 use Prim.Native.Nat.{ℕ, suc}
@@ -16,7 +16,7 @@ unfoldable pub int : ℤ → List ℕ
 int (pos n) = decimal n
 int (negsuc n) = ascii "-" ++ decimal (suc n)
 
--- a value of the stack, after a space
+-- a value, after a space
 unfoldable pub value : ℤ → List ℕ
 value v = ascii " " ++ int v
 

@@ -51,7 +51,7 @@ pub fn put_int(out: &mut [u8], at: usize, v: i64) -> usize
     put_number(out, at, n)
 }
 
-// A value of the stack after a space.
+// A value after a space.
 pub fn put_value(out: &mut [u8], at: usize, v: i64) -> usize
     requires { ⌜ at + 21 ≤ length (now out) ⌝ }
     ensures { λ r. ⌜ Wrote (now (out .entry)) at (value v) r (now (out .exit)) 21 ⌝ }

@@ -8,8 +8,8 @@ use lib.Dec.{eqb}
 use lib.ListN.{getD}
 use Rattle.base.specs.Counting.{count}
 use Rattle.picture.specs.Picture.{Picture, colsOf}
-use Rattle.shade.specs.Shade.{countsText}
-use Rattle.shade.specs.Counted.{entryText, cellsText}
+use Rattle.shade.specs.Shade.{entryText, countsText}
+use Rattle.shade.specs.Counted.{cellsText}
 
 -- one codel more
 pub cells-turn : (map visits : List ℕ) (cols i : ℕ)

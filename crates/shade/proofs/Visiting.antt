@@ -37,25 +37,44 @@ use Rattle.piet.specs.RunPicture as running
 use Rattle.piet.specs.RunPicture.{Lends, askedPicture}
 use Rattle.piet.proofs.Built.{valid, picture-visits}
 use Rattle.piet.proofs.Refusing as picture
-use Rattle.job.specs.Encoding.{Content}
+use Rattle.job.specs.declared.Parts.{Parts}
+use Rattle.job.specs.Encoding.{Content, IsJob}
+use Rattle.job.specs.Outcome.{LaidOut}
 use Rattle.report.specs.Text.{refusalText}
-use Rattle.answer.specs.Program.{askedOf}
+use Rattle.answer.specs.Program as program
+use Rattle.answer.specs.Program.{askedOf, refusalOf, Prints}
 use Rattle.answer.proofs.Ending.{Sized, same-refusal, enough}
-use Rattle.shade.specs.Shade.{uncounted, shaded}
-use Rattle.shade.specs.Counted.{cellsText, PrintablePicture, JobTable, PutShaded}
+use Rattle.answer.proofs.Answering.{refusal-is, prints}
+use Rattle.shade.specs.Shade.{Shaded, uncounted, shaded}
+use Rattle.shade.specs.Counted.{cellsText, PrintablePicture, still, stillSaid, JobTable, PutShaded}
 use Rattle.shade.proofs.Texts.{same-text}
 
--- a run of a job's picture that finished left its table
-pub tabled : (c : Content) {l l′ : Lends} {x : Ended} {n : ℕ} → Sized l → (r : Pictured) → r ≡ Pictured.Finished x n → running.Outcome (askedOf c) l r l′
+-- the refusals of a job go by no limit
+still-refusal : (c : Content) → refusalOf (stillSaid c) ≡ refusalOf c
+unfolding running.refusal running.refusals
+still-refusal c = refl
+
+pub laid-still : {job : List ℕ} {p : Parts} → LaidOut job p → LaidOut job (still p)
+laid-still h = record { pixels = h .pixels; least = h .least; input = h .input; most = h .most; last = h .last }
+
+-- a refusal is printed
+pub prints-still : {job before after : List ℕ} {n y x r : ℕ} (c : Content) → IsJob job c → {l l′ : Lends} → Sized l
+    → running.Outcome (askedOf (stillSaid c)) l (Pictured.Refused n y x) l′ → Put before 0 (refusalText n) r after → Prints Shaded job before r after
+prints-still c j s o p =
+    let (k, v, e, h) = refusal-is _ refl o in
+    prints (rw e (program.refused c j k v (sym (still-refusal c) ∙ sym (same-refusal (stillSaid c) s) ∙ h))) p
+
+-- a run of a job's picture that finished left its table, of no step too
+pub tabled : (c : Content) {l l′ : Lends} {x : Ended} {n : ℕ} → Sized l → (r : Pictured) → r ≡ Pictured.Finished x n → running.Outcome (askedOf (stillSaid c)) l r l′
     → JobTable c n (l′ .map) (l′ .rows) (l′ .exits)
 tabled c s r z (running.refused k v h q) = absurd (refusing.refused k v _ (sym q ∙ ap running.numbered z))
 tabled c {l} {l′} {n = n} s r z (running.done none R) =
     let same : R .regions ≡ n = cc in
     rw (← same) (record {
-      none = sym (same-refusal c s) ∙ none;
+      none = sym (still-refusal c) ∙ sym (same-refusal (stillSaid c) s) ∙ none;
       lent = l;
       work = l′ .work;
-      accepted = picture.accepted (askedOf c) l 0 (0 ∷ 0 ∷ []) refl (sym none) .builds;
+      accepted = picture.accepted (askedOf (stillSaid c)) l 0 (0 ∷ 0 ∷ []) refl (sym none) .builds;
       written = R .table;
     })
 

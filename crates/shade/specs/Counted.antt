@@ -1,6 +1,5 @@
 -- Inner: what the helpers of `shade` promise: the same text from the map and the counts that the code holds. Assumes nothing.
 use mathlib.Core.Path.{_≡_}
-use mathlib.Core.Bool.{Bool, cond}
 use mathlib.Core.List.{List, [], _∷_, _++_}
 use Prim.Native.Nat.{ℕ, zero, suc, _*_, _%_, _<_, _≤_}
 use lib.Dec.{eqb}
@@ -8,19 +7,14 @@ use lib.ListN.{length, getD}
 use Rattle.base.specs.Edition.{rustNumber, editionOf}
 use Rattle.base.specs.Lent.{Put}
 use Rattle.base.specs.Numbers.{numbers}
-use Rattle.base.specs.Text.{ascii, decimal}
 use Rattle.picture.specs.Picture.{ceil}
 use Rattle.cfg.specs.Build as building
 use Rattle.cfg.specs.Build.{Written}
 use Rattle.piet.specs.RunPicture.{Lends, askedPicture}
+use Rattle.job.specs.declared.Parts.{Parts}
 use Rattle.job.specs.Encoding.{Content}
-use Rattle.report.specs.Text.{newline}
 use Rattle.answer.specs.Program.{askedOf, refusalOf}
-use Rattle.shade.specs.Shade.{Shaded}
-
--- a codel's count, and a newline after it where it is the last of its row, else a blank
-abbrev pub entryText : ℕ → Bool → List ℕ
-entryText times last = decimal times ++ cond last newline (ascii " ")
+use Rattle.shade.specs.Shade.{entryText, Shaded}
 
 -- the counts of the first codels, each by its region's cell
 module _ (map visits : List ℕ) (cols : ℕ) where
@@ -42,6 +36,23 @@ pub record PrintablePicture (room : ℕ) (map : List ℕ) (cells height width co
   pub sized : 0 < codel
   pub small : codel ≤ 1024
   pub counts : Printable room map cells (ceil height codel * ceil width codel) (ceil width codel)
+
+-- the parts of a job, or what they say, with no step to make
+abbrev pub still : Parts → Parts
+still p = record {
+  height = p .height;
+  width = p .width;
+  codel = p .codel;
+  limit = 0;
+  abstracted = p .abstracted;
+  pixels = p .pixels;
+  settings = p .settings;
+  input = p .input;
+  end = p .end;
+}
+
+abbrev pub stillSaid : Content → Content
+stillSaid c = record { height = c .height; width = c .width; codel = c .codel; pixels = c .pixels; limit = 0; abstracted = c .abstracted; input = c .input }
 
 -- the job is not refused, and its picture's table of n regions was built in these lists
 pub record JobTable (c : Content) (n : ℕ) (map rows exits : List ℕ) : Type 0 where

@@ -1,6 +1,6 @@
 -- What is printed for a picture that is to be shaded: how often each codel's block was entered (rules 17.1, 18.5). Assumes nothing.
 use mathlib.Core.Path.{_≡_}
-use mathlib.Core.Bool.{cond}
+use mathlib.Core.Bool.{Bool, cond}
 use mathlib.Core.List.{List, [], _++_}
 use Prim.Native.Nat.{ℕ, zero, suc, _%_}
 use lib.Dec.{eqb}
@@ -16,18 +16,22 @@ use Rattle.job.specs.Encoding.{Content}
 use Rattle.report.specs.Text.{newline, refusalText}
 use Rattle.answer.specs.Program.{askedOf, Ran, Printed}
 
+-- a count, and a newline after it where it is the last of its row, else a blank
+abbrev pub entryText : ℕ → Bool → List ℕ
+entryText times last = decimal times ++ cond last newline (ascii " ")
+
 -- where the map has the regions of a picture's codels, and these are the regions entered
 module _ (p : Picture) (map entered : List ℕ) where
-  -- codel i's count, and a blank after it, or a newline at the end of its row
+  -- how often codel i's region was entered
   abbrev pub codelText : ℕ → List ℕ
-  codelText i = decimal (count (getD map i 0) entered) ++ cond (eqb (suc i % colsOf p) 0) newline (ascii " ")
+  codelText i = entryText (count (getD map i 0) entered) (eqb (suc i % colsOf p) 0)
 
   -- the first n codels, row by row
   unfoldable pub countsText : ℕ → List ℕ
   countsText zero = []
   countsText (suc n) = countsText n ++ codelText n
 
--- the text for a job whose picture is run
+-- the text for a job that the run program does not refuse
 pub data Shaded (c : Content) (text : List ℕ) : Type 0 where
   -- its limit is too large to count by: 16 (rules 12.11, 17.3)
   uncounted : c .limit ≡ uncountable → text ≡ refusalText 16 → Shaded c text

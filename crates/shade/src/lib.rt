@@ -1,4 +1,5 @@
 // How often each codel's block was entered by the run of a job's picture, as text in a lent slice of bytes.
+ghost use mathlib.Core.Path.{_≡_};
 ghost use Prim.Native.Nat.{_+_, _*_, _≤_};
 ghost use lib.ListN.{length};
 ghost use Rattle.base.specs.Lent.{Put};
@@ -6,8 +7,8 @@ ghost use Rattle.picture.specs.Picture.{ceil};
 ghost use Rattle.job.specs.Outcome.{Reads, contentOf};
 ghost use Rattle.report.specs.Wrote.{Wrote};
 ghost use Rattle.answer.specs.Program.{Prints};
-ghost use Rattle.shade.specs.Shade.{Shaded, Outcome};
-ghost use Rattle.shade.specs.Counted.{entryText, cellsText, Printable, PrintablePicture, JobTable, PutShaded};
+ghost use Rattle.shade.specs.Shade.{entryText, Shaded, Outcome};
+ghost use Rattle.shade.specs.Counted.{still, cellsText, Printable, PrintablePicture, JobTable, PutShaded};
 use answer::run_parts;
 use base::edition::RUST_EDITION;
 use base::put::put_number;
@@ -20,7 +21,7 @@ use report::put_refusal;
 use visits::Visited;
 use visits::run_visits;
 
-// The room that every program has that answers a job; 512 counts of 20 digits, each with a byte after it, take 10,752 bytes.
+// Room for the longest text: 512 counts of 20 digits, each with a byte after it, take 10,752 bytes.
 const ROOM: usize = 16384;
 
 // A codel's count, with a newline after it where its row ends, and else a blank.
@@ -107,7 +108,24 @@ fn put_visits(
     }
 }
 
-// Runs a job's picture, with room for 512 pixels, for the table that is built for it, over which it is run once more and counted.
+// The parts of a job with no step to make. The refusals and the table of its picture go by no limit.
+fn still(p: Parts) -> Parts
+    ensures { λ r. ⌜ r ≡ still p ⌝ }
+{
+    Parts {
+        height: p.height,
+        width: p.width,
+        codel: p.codel,
+        limit: 0,
+        abstracted: p.abstracted,
+        pixels: p.pixels,
+        settings: p.settings,
+        input: p.input,
+        end: p.end,
+    }
+}
+
+// Builds the table of a job's picture, with room for 512 pixels, by a run of no step, and counts the job's own run over it.
 fn shade_job(job: &[u8], out: &mut [u8], p: Parts) -> usize
     requires { ⌜ (16384 ≤ length (now out)) × Reads (now job) p ⌝ }
     ensures { λ r. ⌜ Prints Shaded (now (job .entry)) (now (out .entry)) r (now (out .exit)) ⌝ }
@@ -122,7 +140,7 @@ fn shade_job(job: &[u8], out: &mut [u8], p: Parts) -> usize
     let mut values = [0i64; 256];
     let pictured = run_parts(
         job,
-        p,
+        still(p),
         &mut colours,
         &mut map,
         &mut rows,

@@ -14,8 +14,8 @@ use Rattle.text.proofs.RangeLaws.{below}
 use Rattle.text.proofs.Utf8Laws.{scalar-bounds, scalar-high}
 use Rattle.report.specs.Text.{int, value, item}
 use Rattle.telling.specs.declared.outputs.Character.the-variants.{Scalar, Other}
-use Rattle.telling.specs.Outputs.{control, isChar, isShown, emitText, shown}
-use Rattle.telling.specs.Bounds.{Names, quoted}
+use Rattle.telling.specs.Outputs.{control, isChar, isShown, emitText, quoted, shown}
+use Rattle.telling.specs.Bounds.{Names}
 
 -- which character a value is
 pub no-char-below : {v : ℤ} → Neg v → Names v Other
@@ -68,7 +68,7 @@ module _ (kind : ℕ) (v : ℤ) where
   unfolding shown
   shown-number h = rw (ne-eqb kind 1 h)
 
-  pub shown-char : (c : ℕ) → kind ≡ 1 → Names v (Scalar c) → control c ≡ false → shown kind v ≡ quoted c
+  pub shown-char : (c : ℕ) → kind ≡ 1 → Names v (Scalar c) → control c ≡ false → shown kind v ≡ quoted (encode c)
   unfolding shown Names
   shown-char c e h k = rw (eq-eqb kind 1 e, h .0, h .1, k)
 

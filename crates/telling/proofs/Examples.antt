@@ -62,9 +62,9 @@ unfolding emitText outputText scalar encode within digits decimal int
 output-example = refl
 
 -- an end, where one line was skipped
-pub end-example : endLines Completed 40 (ascii "White_0_3") (store (pos 1 ∷ []) (character 72 ∷ number (pos 12) ∷ []) oneSkipped)
+pub end-example : endLines Completed 40 (ascii "RegRed_0_3") (store (pos 1 ∷ []) (character 72 ∷ number (pos 12) ∷ []) oneSkipped)
     ≡ ascii "Completed: no attempt is open" ++ newline
-    ++ ascii "steps 40, at White_0_3; dp right, cc left; stack 1" ++ newline
+    ++ ascii "steps 40, at RegRed_0_3; dp right, cc left; stack 1" ++ newline
     ++ ascii "IntIn skipped lines that are no number: 1" ++ newline
     ++ ascii "output 3 bytes:" ++ newline
     ++ ascii "H12"

@@ -3,6 +3,5 @@ pub mod CountLaws
 pub mod StackLaws
 pub mod CharLaws
 pub mod OutputLaws
-pub mod LineLaws
 pub mod PartLaws
 pub mod Examples

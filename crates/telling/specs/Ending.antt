@@ -13,7 +13,7 @@ use Rattle.report.specs.Text.{newline, counted, line}
 use Rattle.telling.specs.Words.{stackText, pointersText}
 use Rattle.telling.specs.Outputs.{outputText}
 
--- the reasons of a stop (rules 11.1 to 11.6)
+-- the reasons of a stop (rules 11.1 to 11.6), of edition 1, which jobs are of
 unfoldable pub stopText : Stop → List ℕ
 stopText Completed = ascii "Completed: no attempt is open"
 stopText MaxSteps = ascii "MaxSteps: as many steps as the limit"
@@ -43,17 +43,13 @@ hiddenText n = unlessNone (ascii "moves not shown, for lack of room: ") n
 unfoldable pub outputLines : List Emit → List ℕ
 outputLines outs = counted (ascii "output ") (length (outputText outs)) ++ ascii " bytes:" ++ newline ++ outputText outs
 
--- steps, label, pointers and stack of where the run stands
+-- the steps made, and the label of the block where the run stands
+abbrev pub stepsText : ℕ → List ℕ → List ℕ
+stepsText steps label = counted (ascii "steps ") steps ++ ascii ", at " ++ label ++ ascii "; "
+
+-- and the pointers and the stack there
 unfoldable pub placeText : ℕ → List ℕ → Store → List ℕ
-placeText steps label m =
-    counted (ascii "steps ") steps
-    ++ ascii ", at "
-    ++ label
-    ++ ascii "; "
-    ++ pointersText (m .pointers)
-    ++ ascii "; stack"
-    ++ stackText (m .stack)
-    ++ newline
+placeText steps label m = stepsText steps label ++ pointersText (m .pointers) ++ ascii "; stack" ++ stackText (m .stack) ++ newline
 
 -- the lines of a run that stopped at a block of this label, with this store
 unfoldable pub endLines : Stop → ℕ → List ℕ → Store → List ℕ

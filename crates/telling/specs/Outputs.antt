@@ -38,11 +38,15 @@ abbrev pub isShown : ℤ → Bool
 isShown (pos c) = scalar c && not (control c)
 isShown (negsuc n) = false
 
+-- in quotes, after a blank
+abbrev pub quoted : List ℕ → List ℕ
+quoted text = ascii " '" ++ text ++ ascii "'"
+
 -- an output after a blank, as ` 12`, ` 'A'`, or by its number, ` c10`
 unfoldable pub shown : ℕ → ℤ → List ℕ
-shown kind v = cond (eqb kind 1) (cond (isShown v) (ascii " '" ++ charText v ++ ascii "'") (item 1 v)) (value v)
+shown kind v = cond (eqb kind 1) (cond (isShown v) (quoted (charText v)) (item 1 v)) (value v)
 
--- the first of the outputs that a move makes; no instruction makes two
+-- the first of the outputs that a move makes; no instruction makes two (`intOut`, `charOut`: machine, Output)
 unfoldable pub outText : List Emit → List ℕ
 outText [] = []
 outText (e ∷ es) = ascii "; out" ++ shown (e .kind) (e .value)

@@ -47,7 +47,11 @@ unfoldable pub others : ℕ → List ℕ
 others zero = []
 others (suc n) = counted (ascii " and ") (suc n) ++ ascii " more"
 
--- a stack, its top first, each value after a blank: the first eight, and how many more there are
+-- the most values of a stack that are shown
+abbrev pub mostValues : ℕ
+mostValues = 8
+
+-- a stack, its top first, each value after a blank: the first ones, and how many more there are
 unfoldable pub stackText : List ℤ → List ℕ
 stackText [] = ascii " empty"
-stackText (v ∷ s) = values (take 8 (v ∷ s)) ++ others (length (v ∷ s) - 8)
+stackText (v ∷ s) = values (take mostValues (v ∷ s)) ++ others (length (v ∷ s) - mostValues)

@@ -6,8 +6,8 @@ ghost use lib.ListN.{length, drop};
 ghost use Rattle.text.specs.Utf8.{tailByte, bytes3, bytes4, encode};
 ghost use Rattle.machine.specs.Output.{outsOf};
 ghost use Rattle.report.specs.Wrote.{Wrote};
-ghost use Rattle.telling.specs.Outputs.{control, emitText, outputText, shown, outText};
-ghost use Rattle.telling.specs.Bounds.{quoted, Names};
+ghost use Rattle.telling.specs.Outputs.{control, emitText, outputText, quoted, shown, outText};
+ghost use Rattle.telling.specs.Bounds.{Names};
 use base::put::put_word;
 use report::put_int;
 use report::put_item;
@@ -125,7 +125,13 @@ fn put_emit(out: &mut [u8], at: usize, kind: u8, v: i64) -> usize
 }
 
 // The first outputs, one after the other, with nothing between them.
-pub fn put_outputs(out: &mut [u8], at: usize, kinds: &[u8], values: &[i64], count: usize) -> usize
+pub(crate) fn put_outputs(
+    out: &mut [u8],
+    at: usize,
+    kinds: &[u8],
+    values: &[i64],
+    count: usize,
+) -> usize
     requires { ⌜ ((count ≤ length (now kinds)) × (count ≤ length (now values))) × (at + 20 * count ≤ length (now out)) ⌝ }
     ensures { λ r. ⌜ Wrote (now (out .entry)) at (outputText (outsOf (now (kinds .entry)) (now (values .entry)) count)) r (now (out .exit)) (20 * count) ⌝ }
 {
@@ -141,7 +147,7 @@ pub fn put_outputs(out: &mut [u8], at: usize, kinds: &[u8], values: &[i64], coun
 // A character between quotes, after a blank.
 fn put_quoted(out: &mut [u8], at: usize, c: u32) -> usize
     requires { ⌜ (c < 0x110000) × (at + 7 ≤ length (now out)) ⌝ }
-    ensures { λ r. ⌜ Wrote (now (out .entry)) at (quoted c) r (now (out .exit)) 7 ⌝ }
+    ensures { λ r. ⌜ Wrote (now (out .entry)) at (quoted (encode c)) r (now (out .exit)) 7 ⌝ }
 {
     let a = put_word(out, at, b" '");
     let b = put_scalar(out, a, c);

@@ -5,20 +5,17 @@ use mathlib.Core.List.{List, _++_}
 use Prim.Native.Nat.{ℕ, min, _+_, _-_, _*_, _≤_}
 use native.Mathlib.Omega.{arith}
 use lib.ListN.{length}
-use Rattle.stack.specs.Stack.{stackOf}
-use Rattle.machine.specs.Output.{outsOf}
 use Rattle.machine.specs.Machine.{Given, Store}
 use Rattle.machine.specs.Place.{start, End}
 use Rattle.machine.specs.Held.{Slices, storeOf}
 use Rattle.machine.proofs.Only.{AsLong}
 use Rattle.interpreter.specs.declared.Ended.{Ended}
 use Rattle.interpreter.specs.Run.{Job, ran}
-use Rattle.interpreter.specs.Outcome.{jobOf, endOf, endedOf, slicesOf, coreOf}
+use Rattle.interpreter.specs.Outcome.{jobOf, endOf, slicesOf, coreOf}
 use Rattle.interpreter.proofs.Histories.{run-history}
 use Rattle.interpreter.proofs.RunLaws.{same-job}
 use Rattle.report.specs.Wrote.{Wrote}
 use Rattle.report.proofs.Writing.{wrote-then}
-use Rattle.answer.specs.Program.{runRoom}
 use Rattle.answer.specs.Printing.{labelIn}
 use Rattle.answer.proofs.Slices.{stack-back, stack-few, outs-back, outs-few}
 use Rattle.telling.specs.Ending.{hiddenText, endLines}
@@ -34,7 +31,7 @@ store-back l s =
     λ i. record { pointers = s .pointers; stack = a i; outs = b i; reading = s .reading }
 
 -- of so many moves all but the first have no line
-pub without-line : (moves : ℕ) → moves - min mostLines moves ≡ moves - mostLines
+without-line : (moves : ℕ) → moves - min mostLines moves ≡ moves - mostLines
 without-line moves = omega arith
 
 module _ {n : ℕ} {rows exits : List ℕ} {g : Given} {l : Slices} {e : Ended} {room : ℕ} (E : Endable n rows exits g l e room) where

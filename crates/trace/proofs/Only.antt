@@ -40,7 +40,7 @@ module _ {p : Picture} {map : List ℕ} (S : Sound p) (L : length map ≡ codels
       λ j. text j ++ moveLine (suc (shorter j)) (label j) (opNumbered (op j)) (before .2 j) (after .2 j)
 
 -- the lines of the first moves of a job's run
-record Told (c : Content) (map : List ℕ) (moves : ℕ) (text : List ℕ) : Type 0 where
+record First (c : Content) (map : List ℕ) (moves : ℕ) (text : List ℕ) : Type 0 where
   history : List Move
   region : ℕ
   store : Store
@@ -48,7 +48,7 @@ record Told (c : Content) (map : List ℕ) (moves : ℕ) (text : List ℕ) : Typ
   first : length history ≡ moves
   told : Lines history region store walk text
 
-told : {c : Content} {text : List ℕ} (t : Traced c text) → Told c (t .map) (min mostLines (t .end .at .steps)) (t .lines)
+told : {c : Content} {text : List ℕ} (t : Traced c text) → First c (t .map) (min mostLines (t .end .at .steps)) (t .lines)
 told t = record { history = t .history; region = t .region; store = t .store; walk = t .walk; first = t .first; told = t .told }
 
 traced-only : One Traced
@@ -58,7 +58,7 @@ traced-only c h x y A B =
     let end = same-end c h (A .ran) (B .ran) in
     let label = same-label c h (A .ran) (B .ran) (A .labelled) (B .labelled) in
     let a = told A in
-    let b = subst (λ (m : List ℕ). Told c m (min mostLines (B .end .at .steps)) (B .lines)) (sym map) (told B) in
+    let b = subst (λ (m : List ℕ). First c m (min mostLines (B .end .at .steps)) (B .lines)) (sym map) (told B) in
     let many : length (a .history) ≡ length (b .history) = a .first ∙ ap (λ (e : End). min mostLines (e .at .steps)) end ∙ sym (b .first) in
     let lines = lines-only S (A .ran .long) (givenOf (askedOf c .asks)) runRoom many (a .told) (b .told) in
     A .is

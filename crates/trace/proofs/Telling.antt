@@ -4,23 +4,21 @@ use mathlib.Core.List.{List, [], _++_}
 use Prim.Native.Nat.{ℕ, _+_, _-_, _*_, _<_, _≤_}
 use native.Mathlib.Omega.{arith}
 use lib.ListN.{length}
-use Rattle.machine.specs.declared.Stop.{Stop}
-use Rattle.machine.specs.Machine.{Given, JudgedIn}
-use Rattle.machine.specs.Place.{Machine, start}
+use Rattle.machine.specs.Machine.{Given}
+use Rattle.machine.specs.Place.{Machine}
 use Rattle.machine.specs.Held.{Slices}
 use Rattle.machine.proofs.Only.{AsLong}
 use Rattle.interpreter.specs.declared.State.{State}
-use Rattle.interpreter.specs.declared.stepping.Moved.the-variants.{Halted}
-use Rattle.interpreter.specs.Run.{Job, Went, goes, halts, exitFrom, stepOf, runOf}
+use Rattle.interpreter.specs.Run.{Job, Went, goes, halts, stepOf, runOf}
 use Rattle.interpreter.specs.Outcome.{jobOf, endOf}
-use Rattle.interpreter.specs.Resume.{machineOf, Placed}
+use Rattle.interpreter.specs.Resume.{machineOf}
 use Rattle.interpreter.specs.Moving.{Begun, nextOf, After}
 use Rattle.interpreter.proofs.RunLaws.{same-job, Along, along-start, along-next, ends-halted}
 use Rattle.interpreter.proofs.Settled.{begun-machine, begun-placed, begun-judged, begun-run}
 use Rattle.report.specs.Wrote.{Wrote}
-use Rattle.report.proofs.Writing.{put-none, wrote, widen, wrote-length, wrote-room, wrote-then}
+use Rattle.report.proofs.Writing.{put-none, wrote, widen, wrote-room, wrote-then}
 use Rattle.trace.specs.declared.Shown.{Shown}
-use Rattle.trace.specs.Told.{stepLine, Told, none, more, Goes, Steps, Tellable, Tells}
+use Rattle.trace.specs.Told.{stepLine, Told, none, more, Goes, Steps, Tells}
 
 module _ (n : ℕ) (rows exits : List ℕ) (g : Given) (l₀ : Slices) (from : State) (shown : ℕ) (d₀ : List ℕ) where
   abbrev job : Job
@@ -36,7 +34,7 @@ module _ (n : ℕ) (rows exits : List ℕ) (g : Given) (l₀ : Slices) (from : S
 
   module _ {l : Slices} {at : State} {end : ℕ} {d : List ℕ} (t : Telling l at end d) where
     -- a step that the run makes is made here
-    pub made-here : at .steps < g .terms .limit → at .steps < runOf job (g .terms .limit - from .steps) (machineOf l₀ from) .at .steps
+    made-here : at .steps < g .terms .limit → at .steps < runOf job (g .terms .limit - from .steps) (machineOf l₀ from) .at .steps
         → Goes (jobOf rows exits g l) (machineOf l at)
     unfolding nextOf After
     made-here h k = go (stepOf (jobOf rows exits g l) (machineOf l at)) refl

@@ -31,7 +31,7 @@ use Rattle.answer.specs.Program.{askedOf, refusalOf, runRoom, Ran, Labels, ran,
 use Rattle.answer.specs.Printing.{labelIn}
 use Rattle.answer.proofs.Ending.{Sized, same-refusal, same-room, has-label, labelled, ran-so}
 use Rattle.answer.proofs.Answering.{Finish, finish, prints}
-use Rattle.trace.specs.Trace.{Traced}
+use Rattle.trace.specs.Trace.{Traced, traceRoom}
 use Rattle.trace.specs.Told.{Told, Endable, Ends}
 use Rattle.trace.proofs.Walking.{told-walks}
 
@@ -102,7 +102,7 @@ module _ (c : Content) {l l′ : Lends} (s : Sized l) (s′ : Sized l′) {x : E
   in-table h = rw (f .counted) h
 
   -- it can be told
-  pub endable : (room : ℕ) → 524288 ≤ room → Endable n (l′ .rows) (l′ .exits) g (l′ .run) x room
+  pub endable : (room : ℕ) → traceRoom ≤ room → Endable n (l′ .rows) (l′ .exits) g (l′ .run) x room
   endable room h = record {
     good = good-of (editionOf rustNumber) n (l′ .rows) (l′ .exits) (table .valid);
     labelled = λ r k. has-label c s s′ none (f .runs) r (in-table k);

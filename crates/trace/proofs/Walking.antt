@@ -1,5 +1,5 @@
 -- From what is told over a table to what is told of the picture: the steps told are the moves of a walk. Assumes nothing.
-use mathlib.Core.Path.{_≡_, refl, sym, ap, subst, _∙_}
+use mathlib.Core.Path.{_≡_, refl, sym, subst}
 use mathlib.Core.List.{List, [], _∷_, _++_}
 use Prim.Native.Nat.{ℕ, suc, _<_}
 use native.Mathlib.Omega.{arith}
@@ -8,7 +8,7 @@ use Rattle.colour.specs.Palette.{white}
 use Rattle.picture.specs.Picture.{Picture, Sound}
 use Rattle.table.specs.ExitNumber.{targetOf}
 use Rattle.machine.specs.Machine.{Given, RunRoom}
-use Rattle.machine.specs.Place.{Machine, start}
+use Rattle.machine.specs.Place.{Machine}
 use Rattle.interpreter.specs.Table.{opOf}
 use Rattle.interpreter.specs.Run.{Job, goes, exitFrom, stepOf}
 use Rattle.interpreter.proofs.Histories.{step-kept}

@@ -5,7 +5,7 @@ use Prim.Native.Nat.{ℕ, min, _-_, _*_, _<_, _≤_}
 use lib.ListN.{length}
 use Rattle.flow.specs.Pointer.{Valid}
 use Rattle.machine.specs.Machine.{Given}
-use Rattle.machine.specs.Place.{Machine, start, End}
+use Rattle.machine.specs.Place.{Machine, start}
 use Rattle.machine.specs.Held.{Slices}
 use Rattle.interpreter.specs.declared.State.{State}
 use Rattle.interpreter.specs.declared.Ended.{Ended}
@@ -21,7 +21,7 @@ use Rattle.answer.specs.Printing.{HasLabel, labelIn}
 use Rattle.telling.specs.Line.{moveLine}
 use Rattle.telling.specs.Ending.{hiddenText, endLines}
 use Rattle.trace.specs.declared.Shown.{Shown}
-use Rattle.trace.specs.Trace.{mostLines}
+use Rattle.trace.specs.Trace.{mostLines, traceRoom}
 
 -- the line of a step over a table
 abbrev pub stepLine : Job → Machine → Machine → List ℕ
@@ -71,7 +71,7 @@ pub record Endable (n : ℕ) (rows exits : List ℕ) (g : Given) (l : Slices) (e
   pub left : l ≡ slicesOf l (endOf rows exits g l .at .store)
   pub valid : Valid (e .at .core .pointers)
   pub sized : (length (l .stack) ≡ runRoom .stack) × (length (l .kinds) ≡ runRoom .outs) × (length (l .values) ≡ runRoom .outs)
-  pub roomy : 524288 ≤ room
+  pub roomy : traceRoom ≤ room
 
 -- and was told to its end
 pub record Ends (rows exits : List ℕ) (g : Given) (l : Slices) (d : List ℕ) (r : ℕ) (d′ : List ℕ) : Type 0 where

@@ -46,6 +46,10 @@ pub record Traced (c : Content) (text : List ℕ) : Type 0 where
   pub labelled : Labels (askedPicture (askedOf c)) map (end .at .region) label
   pub is : text ≡ lines ++ hiddenText (end .at .steps - mostLines) ++ endLines (end .stop) (end .at .steps) label (end .at .store)
 
+-- the room that a trace is asked to have
+abbrev pub traceRoom : ℕ
+traceRoom = 524288
+
 -- what a call answers and leaves
 abbrev pub Outcome : List ℕ → List ℕ → ℕ → List ℕ → Type 0
-Outcome = Printed Traced 524288
+Outcome = Printed Traced traceRoom

@@ -13,7 +13,7 @@ ghost use Rattle.report.specs.Wrote.{Wrote};
 ghost use Rattle.answer.specs.Printing.{HasLabel, labelIn};
 ghost use Rattle.telling.specs.Bounds.{Inside};
 ghost use Rattle.telling.specs.Ending.{endLines};
-ghost use Rattle.trace.specs.Trace.{mostLines, Traced, Outcome};
+ghost use Rattle.trace.specs.Trace.{mostLines, traceRoom, Traced, Outcome};
 ghost use Rattle.trace.specs.Told.{Goes, Steps, Tellable, Tells, Endable, Ends};
 use answer::label_region;
 use answer::run_parts;
@@ -42,7 +42,7 @@ const ROOM: usize = 524288;
 const MOST_LINES: u64 = 1000;
 
 // Where a run stands after a move, and the index after the move's line.
-pub struct Shown {
+pub(crate) struct Shown {
     pub at: State,
     pub end: usize,
 }
@@ -256,7 +256,7 @@ fn trace_parts(
 
 // The trace of a job that was read, with room for 512 pixels, 256 stack cells and 256 outputs.
 fn trace_job(job: &[u8], out: &mut [u8], p: Parts) -> usize
-    requires { ⌜ (524288 ≤ length (now out)) × Reads (now job) p ⌝ }
+    requires { ⌜ (traceRoom ≤ length (now out)) × Reads (now job) p ⌝ }
     ensures { λ r. ⌜ Prints Traced (now (job .entry)) (now (out .entry)) r (now (out .exit)) ⌝ }
 {
     let mut colours = [0u8; 512];

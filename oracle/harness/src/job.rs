@@ -1,11 +1,23 @@
 //! The run program's jobs, as far as the Rust has a say in them.
-use crate::machine::{run_in_room, Judged, Room, Terms};
+use crate::machine::{run_watched, Answer, Judged, Room, Terms};
 use crate::numbers::classify;
-use crate::picture::{build, Picture};
+use crate::picture::{build, Built, Picture};
+use crate::trace;
 
 pub enum Done {
     Refused(u32),
-    Ran(Judged),
+    Ran(Ran),
+}
+
+/// A job's run, with what is told of it.
+pub struct Ran {
+    /// codels in a row
+    pub columns: usize,
+    pub limit: u64,
+    pub built: Built,
+    pub judged: Judged,
+    /// what the machine held before the first step and after each that has a line in a trace: stack, pointers and outputs
+    pub held: Vec<Answer>,
 }
 
 /// The room that the rules give the run program.
@@ -46,7 +58,20 @@ pub fn job(bytes: &[u8]) -> Option<Done> {
     if built.refused_white() {
         return Some(Done::Refused(9));
     }
-    Some(Done::Ran(run_in_room(&built.cfg, &terms, &ROOM)))
+    Some(Done::Ran(Ran::of(built, width.div_ceil(codel) as usize, &terms)))
+}
+
+impl Ran {
+    /// Needs an entry.
+    pub fn of(built: Built, columns: usize, terms: &Terms) -> Ran {
+        let mut held = vec![];
+        let judged = run_watched(&built.cfg, terms, &ROOM, |state| {
+            if held.len() <= trace::MOST {
+                held.push(Answer::of(state.clone(), 0));
+            }
+        });
+        Ran { columns, limit: terms.limit, built, judged, held }
+    }
 }
 
 fn read(bytes: &[u8]) -> Option<Job<'_>> {

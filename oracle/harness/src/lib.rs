@@ -1,6 +1,6 @@
 //! Asks the given Rust and puts its answers into the numbers of the rules (docs/RULES.md). Nothing here
-//! decides what the Rust decides; `skips` decides what it does not tell, `visits` counts what it did, and `page` is a model
-//! of the second edition, of which the Rust knows nothing.
+//! decides what the Rust decides; `skips` decides what it does not tell, `visits` counts what it did, `trace` puts that into words,
+//! and `page` is a model of the second edition, of which the Rust knows nothing.
 pub mod editions;
 pub mod job;
 #[cfg(feature = "archive")]
@@ -15,5 +15,6 @@ pub mod picture;
 pub mod question;
 pub mod random;
 pub mod skips;
+pub mod trace;
 pub mod visits;
 pub mod ways;

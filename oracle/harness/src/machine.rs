@@ -52,7 +52,7 @@ const BAD_INPUT: u32 = 6;
 pub const BAD_LINE: &str = "Failed to read input";
 
 impl Answer {
-    fn of(s: ExecutionState, used: usize) -> Self {
+    pub fn of(s: ExecutionState, used: usize) -> Self {
         Answer {
             status: match s.status {
                 ExecutionStatus::Running => 0,
@@ -169,7 +169,17 @@ impl Judged {
 /// The Rust has no room to run out of. So a walk finds the first step that passes the room or
 /// panics, and `run` itself is asked for the states on both sides of it. Needs an entry.
 pub fn run_in_room(cfg: &CFG, terms: &Terms, room: &Room) -> Judged {
-    let walk = walk(cfg, terms, room);
+    run_watched(cfg, terms, room, |_| ())
+}
+
+/// The same, with what the walk holds shown before its first step and after each that is taken.
+pub fn run_watched(
+    cfg: &CFG,
+    terms: &Terms,
+    room: &Room,
+    watch: impl FnMut(&ExecutionState),
+) -> Judged {
+    let walk = walk(cfg, terms, room, watch);
     if walk.stop == Ok(0) {
         let answer = run(cfg, terms).expect("the walk met no panic");
         return Judged::of(answer, walk, None);
@@ -214,12 +224,13 @@ fn steps_to(entered: &[Node]) -> u64 {
     entered.len() as u64 - 1
 }
 
-fn walk(cfg: &CFG, terms: &Terms, room: &Room) -> Walk {
+fn walk(cfg: &CFG, terms: &Terms, room: &Room, mut watch: impl FnMut(&ExecutionState)) -> Walk {
     let (mut entered, mut moves, mut read) = (vec![], vec![], Read::default());
     let (stop, _) = with_input(terms.input, || {
         let mut machine = interpreter(cfg, terms);
         let mut block = machine.get_entry();
         entered.push(block.clone());
+        watch(machine.open_state());
         while steps_to(&entered) != terms.limit
             && machine.is_complete() != ExecutionStatus::NeedsInput
         {
@@ -238,6 +249,7 @@ fn walk(cfg: &CFG, terms: &Terms, room: &Room) -> Walk {
             }
             entered.push(block.clone());
             moves.push((pointers, instruction));
+            watch(machine.open_state());
             read = after;
         }
         0

@@ -104,6 +104,11 @@ impl Built {
         self.labels.iter().position(|l| l == label).expect("a region's label")
     }
 
+    /// Which regions are nodes.
+    pub fn marks(&self) -> Vec<u32> {
+        self.rows.iter().map(|row| row[4]).collect()
+    }
+
     fn add_region(&mut self, region: &Node, first: Position) {
         let node = self.cfg.get_key_value(region);
         if let Some((kept, _)) = node {

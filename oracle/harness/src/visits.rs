@@ -30,8 +30,7 @@ mod tests {
     /// The counts and the list of a picture's run by each edition.
     fn by_editions(lines: &[&str], limit: u64) -> [(Vec<u64>, Vec<u32>); 2] {
         ran_by_editions(lines, limit).map(|(built, left)| {
-            let marks: Vec<u32> = built.rows.iter().map(|row| row[4]).collect();
-            let Visits { counts, unvisited } = Visits::of(&left.entered, &marks);
+            let Visits { counts, unvisited } = Visits::of(&left.entered, &built.marks());
             (counts, unvisited)
         })
     }

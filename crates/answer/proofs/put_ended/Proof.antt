@@ -39,7 +39,7 @@ slice-aggregate-put-result : tie.Need-slice-aggregate-put-result
 slice-aggregate-put-result c = sym (length-take-le _ _ (labelled c .label-region .ensures .0 .within))
 
 put-result-requires : tie.Need-put-result-requires
-put-result-requires c κs = part-fits (labelled c .label-region .ensures) (begin (labelled c) .pre .fits)
+put-result-requires c κs = part-fits (labelled c .label-region .ensures .0) (labelled c .label-region .ensures .1) (begin (labelled c) .pre .fits)
 
 same-length : tie.Need-same-length
 same-length c = search needs

@@ -1,16 +1,17 @@
 -- `shade::shade_job` meets its contract: a refusal is printed, and else what was counted over the table that was built.
 -- Assumes nothing.
-use mathlib.Core.Path.{_≡_, refl, subst}
+use mathlib.Core.Path.{_≡_, refl, sym, subst}
 use Rattle.piet.specs.declared.run_picture.Pictured.{Pictured}
 use Rattle.piet.specs.RunPicture as running
 use Rattle.piet.specs.RunPicture.{Lends, lends}
 use Rattle.job.specs.Encoding.{Content}
-use Rattle.job.specs.Outcome.{contentOf}
+use Rattle.job.specs.declared.Parts.{Parts}
+use Rattle.job.specs.Outcome.{LaidOut, contentOf}
 use Rattle.answer.specs.Program.{askedOf, ran}
 use Rattle.answer.proofs.Ending.{fresh, fresh-sized}
-use Rattle.answer.proofs.Answering.{prints, prints-refusal}
-use Rattle.shade.specs.Counted.{JobTable}
-use Rattle.shade.proofs.Visiting.{tabled}
+use Rattle.answer.proofs.Answering.{prints}
+use Rattle.shade.specs.Counted.{stillSaid, JobTable}
+use Rattle.shade.proofs.Visiting.{laid-still, prints-still, tabled}
 use borrow.Author.Needs.{needs}
 use Rattle.shade.proofs.shade_job.Statement.{statement}
 use Rattle.shade.proofs.shade_job.Tie as tie
@@ -23,11 +24,14 @@ content s = contentOf (s .args .job .now) (s .args .p)
 abbrev called : tie.After-values2 → tie.After-run-parts
 called v = v .before .before .before .before .before .before .before .before
 
-abbrev made : tie.After-run-parts → tie.After-colours
-made c = c .before .before .before .before .before .before .before .before
+abbrev made : tie.After-values → tie.After-colours
+made c = c .before .before .before .before .before .before .before
+
+abbrev stilled : tie.After-values2 → tie.After-still
+stilled v = made (called v .before) .before
 
 abbrev begin : tie.After-values2 → tie.Start
-begin v = made (called v) .before .before .before
+begin v = stilled v .before .before .before
 
 -- from where the table is lent back to the run's answer
 abbrev built : tie.After-exits3 → tie.After-pictured
@@ -41,12 +45,18 @@ lent-after v =
     (z .1 .1 .1 .1 .1 .1 .1 .0) (z .1 .1 .1 .1 .1 .1 .1 .1 .0)
 
 -- what the run promises of its answer
-answered : (v : tie.After-values2) (r : Pictured) → called v .run-parts .result ≡ r → running.Outcome (askedOf (content (begin v))) fresh r (lent-after v)
-answered v r e = subst (λ (x : Pictured). running.Outcome (askedOf (content (begin v))) fresh x (lent-after v)) e (called v .run-parts .ensures)
+answered : (v : tie.After-values2) (r : Pictured) → called v .run-parts .result ≡ r → running.Outcome (askedOf (stillSaid (content (begin v)))) fresh r (lent-after v)
+answered v r e =
+    let s = begin v in
+    subst (λ (x : Pictured). running.Outcome (askedOf (stillSaid (content s))) fresh x (lent-after v)) e
+    (subst (λ (q : Parts). running.Outcome (askedOf (contentOf (s .args .job .now) q)) fresh (called v .run-parts .result) (lent-after v)) (stilled v .still .ensures) (called v .run-parts .ensures))
 
 -- the table of a picture that was run
 table : (c : tie.After-pictured) → let v = c .before .before in JobTable (content (begin v)) (c .pictured .given .0 .1 .0) (lent-after v .map) (lent-after v .rows) (lent-after v .exits)
 table c = let v = c .before .before in tabled (content (begin v)) fresh-sized _ refl (answered v _ (c .pictured .given .1))
+
+still-requires : tie.Need-still-requires
+still-requires c κs = search needs
 
 slice-aggregate-run-parts : tie.Need-slice-aggregate-run-parts
 slice-aggregate-run-parts c = search needs
@@ -73,7 +83,9 @@ slice-aggregate-run-parts-8 : tie.Need-slice-aggregate-run-parts-8
 slice-aggregate-run-parts-8 c = search needs
 
 run-parts-requires : tie.Need-run-parts-requires
-run-parts-requires c κs = search needs
+run-parts-requires c κs =
+    let t = made c .before in
+    subst (LaidOut (t .before .before .before .args .job .now)) (sym (t .still .ensures)) (laid-still (t .before .before .before .pre .1 .placed))
 
 enum-known-pictured : tie.Need-enum-known-pictured
 enum-known-pictured c = search needs
@@ -121,12 +133,13 @@ returns-2 c =
     let d = c .before .before .before .before .before in
     let v = d .before .before in
     let s = begin v in
-    prints-refusal (content s) (s .pre .1 .said) {l′ = lent-after v} fresh-sized (answered v _ (d .pictured2 .given .1)) (c .before .before .put-refusal .ensures)
+    prints-still (content s) (s .pre .1 .said) {l′ = lent-after v} fresh-sized (answered v _ (d .pictured2 .given .1)) (c .before .before .put-refusal .ensures)
 
 pub shade-job-spec : {M : Type 1} → statement M
 shade-job-spec =
     tie.close
     (tie.spec
+    still-requires
     slice-aggregate-run-parts
     slice-aggregate-run-parts-2
     slice-aggregate-run-parts-3

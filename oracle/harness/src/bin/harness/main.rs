@@ -2,7 +2,7 @@
 mod fields;
 
 use fields::Fields;
-use harness::job::{job, Done};
+use harness::job::{job, Done, Ran};
 use harness::lines::{first_char, number};
 use harness::machine::{execute, run, run_in_room, Answer, Before, Judged, Room, Terms};
 use harness::numbers::{classify, decode, order};
@@ -135,7 +135,7 @@ fn ask_job(bytes: &[u8]) -> String {
     match job(bytes) {
         None => "none".into(),
         Some(Done::Refused(n)) => refused(n),
-        Some(Done::Ran(Judged { answer, panic, .. })) => {
+        Some(Done::Ran(Ran { judged: Judged { answer, panic, .. }, .. })) => {
             answer.to_string() + &panic.map_or(String::new(), panicked)
         }
     }

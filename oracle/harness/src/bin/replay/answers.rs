@@ -64,8 +64,8 @@ fn by_residue(question: &Question) -> Option<Question> {
 
 /// What the run leaves, how often it entered each region of its table, and the exits that it took.
 fn run_lines(built: &Built, left: &Left) -> String {
-    let marks: Vec<u32> = built.rows.iter().map(|row| row[4]).collect();
-    run_line(left) + &visits_line(&Visits::of(&left.entered, &marks)) + &history_line(&left.taken)
+    let visits = Visits::of(&left.entered, &built.marks());
+    run_line(left) + &visits_line(&visits) + &history_line(&left.taken)
 }
 
 /// The first exits, in cells that held one to a region that no table here has.

@@ -59,7 +59,7 @@ fn document() -> Vec<Question> {
 }
 
 /// Each instruction over 0 to 3 values.
-fn depths() -> Vec<Question> {
+pub fn depths() -> Vec<Question> {
     let values = [(Push, 4), (Push, 2), (Push, 3)];
     let over = |depth: usize| {
         INSTRUCTIONS.map(|i| program(&[&values[3 - depth..], &[(i, 5)]].concat(), 0, b"65\n"))
@@ -85,7 +85,7 @@ fn two_values() -> Vec<Question> {
     all
 }
 
-fn one_value() -> Vec<Question> {
+pub fn one_value() -> Vec<Question> {
     const TURNS: [i64; 11] = [i64::MIN, i64::MIN + 1, -5, -2, -1, 0, 1, 2, 3, 6, i64::MAX];
     const CHARACTERS: [i64; 14] = [
         -1,
@@ -217,7 +217,7 @@ fn lines() -> Vec<Question> {
 }
 
 /// Abstract mode, with the limit before, at and after the input instruction.
-fn needs_input() -> Vec<Question> {
+pub fn needs_input() -> Vec<Question> {
     let programs = [vec![IntIn], vec![CharIn, Push], vec![Push, IntIn, Push], vec![Push, Dup, Add]];
     let in_abstract = |p: &Vec<Instruction>, limit: usize| Question {
         is_abstract: true,
@@ -227,7 +227,7 @@ fn needs_input() -> Vec<Question> {
 }
 
 /// Runs that turn their own pointers and come back through white.
-fn loops() -> Vec<Question> {
+pub fn loops() -> Vec<Question> {
     let counting = vec![(Push, 1), (Add, 1), (Dup, 1), (IntOut, 1), (Push, 1), (Ptr, 1)];
     let switching = vec![(Push, 3), (Swi, 1), (Push, 2), (Push, 1), (Ptr, 1)];
     let back = vec![(Push, 3), (Ptr, 1), (Push, 2), (Not, 1)];

@@ -9,6 +9,8 @@ mod programs;
 mod questions;
 mod records;
 mod skipping;
+mod traces;
+mod walks;
 
 use harness::editions::{Editions, PAGE, RUST};
 use harness::lines::{char_in, int_in};
@@ -19,7 +21,8 @@ use std::process::ExitCode;
 
 const USAGE: &str = "usage: replay pixels | replay colours | replay questions | replay lines FILE
      | replay pictures | replay tables FILE | replay jobs | replay runs FILE
-     | replay programs | replay printed FILE";
+     | replay programs | replay printed FILE
+     | replay walks JOBS | replay traced FILE | replay chances SEED COUNT | replay compared FILE FOUND";
 
 fn main() -> ExitCode {
     let arguments: Vec<String> = std::env::args().skip(1).collect();
@@ -35,6 +38,10 @@ fn main() -> ExitCode {
         ["runs", file] => runs(file).map(String::into_bytes),
         ["programs"] => Ok(programs::records()),
         ["printed", file] => printed(file).map(String::into_bytes),
+        ["walks", ref files @ ..] => walks(files),
+        ["traced", file] => traced(file).map(String::into_bytes),
+        ["chances", seed, count] => chances(seed, count),
+        ["compared", file, found] => compared(file, found).map(String::into_bytes),
         _ => Err(USAGE.into()),
     };
     match written.and_then(|bytes| stdout().write_all(&bytes).map_err(|e| e.to_string())) {
@@ -110,6 +117,26 @@ fn runs(file: &str) -> Result<String, String> {
 
 fn printed(file: &str) -> Result<String, String> {
     programs::read(&contents(file)?)?.into_iter().map(programs::printed).collect()
+}
+
+/// The jobs of these files, and after them those that are chosen.
+fn walks(files: &[&str]) -> Result<Vec<u8>, String> {
+    let mut jobs = files.iter().map(|file| contents(file)).collect::<Result<Vec<_>, String>>()?;
+    jobs.extend(walks::chosen());
+    Ok(programs::listed(&jobs))
+}
+
+fn traced(file: &str) -> Result<String, String> {
+    programs::read(&contents(file)?)?.into_iter().map(traces::traced).collect()
+}
+
+fn chances(seed: &str, count: &str) -> Result<Vec<u8>, String> {
+    let number = |word: &str| word.parse::<u64>().map_err(|e| format!("{word}: {e}"));
+    Ok(programs::listed(&walks::by_chance(number(seed)?, number(count)? as usize)))
+}
+
+fn compared(file: &str, found: &str) -> Result<String, String> {
+    traces::compared(&programs::read(&contents(file)?)?, &contents(found)?)
 }
 
 fn contents(file: &str) -> Result<Vec<u8>, String> {

@@ -1,7 +1,7 @@
 //! The run program's jobs that are replayed: those of the run questions, and jobs that are refused.
 use crate::jobs;
-use harness::job::{job, Done};
-use harness::machine::Room;
+use harness::job::{job, Done, Ran};
+use harness::machine::{Judged, Room};
 use harness::numbers::palette;
 use harness::paint::row_over_white;
 use harness::picture::Picture;
@@ -17,9 +17,13 @@ struct Job {
     input: Vec<u8>,
 }
 
-/// Each job after its length in two bytes.
 pub fn records() -> Vec<u8> {
-    all().iter().flat_map(|job| [&(job.len() as u16).to_le_bytes(), &job[..]].concat()).collect()
+    listed(&all())
+}
+
+/// Each job after its length in two bytes.
+pub fn listed(jobs: &[Vec<u8>]) -> Vec<u8> {
+    jobs.iter().flat_map(|job| [&(job.len() as u16).to_le_bytes(), &job[..]].concat()).collect()
 }
 
 pub fn read(bytes: &[u8]) -> Result<Vec<&[u8]>, String> {
@@ -39,18 +43,25 @@ fn first(bytes: &[u8]) -> Option<(&[u8], &[u8])> {
 
 /// What the run program prints, and a line that ends it.
 pub fn printed(bytes: &[u8]) -> Result<String, String> {
-    let text = match job(bytes) {
-        None => refused(refusal(bytes)),
-        Some(Done::Refused(number)) => refused(number),
-        Some(Done::Ran(judged)) => match judged.panic {
-            None => judged.answer.to_string(),
-            Some(text) => return Err(format!("the Rust panics: {text}")),
-        },
+    let text = match done(bytes)? {
+        Done::Refused(number) => refused(number),
+        Done::Ran(ran) => ran.judged.answer.to_string(),
     };
     Ok(text + "--\n")
 }
 
-fn refused(number: u32) -> String {
+/// What becomes of a job that the Rust answers or the rules refuse.
+pub fn done(bytes: &[u8]) -> Result<Done, String> {
+    match job(bytes) {
+        Some(Done::Ran(Ran { judged: Judged { panic: Some(text), .. }, .. })) => {
+            Err(format!("the Rust panics: {text}"))
+        }
+        Some(done) => Ok(done),
+        None => Ok(Done::Refused(refusal(bytes))),
+    }
+}
+
+pub fn refused(number: u32) -> String {
     format!("refused {number}\n")
 }
 
@@ -99,14 +110,30 @@ fn record(kind: u16, body: &[u8]) -> Vec<u8> {
 
 /// Those that the Rust answers or the rules refuse.
 fn all() -> Vec<Vec<u8>> {
-    let palette = palette();
-    let of_question = |q: &Question| written(&asked(q, &palette));
-    let mut all: Vec<Vec<u8>> =
-        jobs::for_the_run_program().iter().chain(&full()).map(of_question).collect();
+    let mut all = of_questions(&[jobs::for_the_run_program(), full(&[1_000, 2_000])].concat());
     all.extend(by_sides().iter().map(written));
     all.extend(cut_and_changed());
     all.retain(|job| printed(job).is_ok());
     all
+}
+
+/// Two that are refused by each number.
+pub fn refused_by_each() -> Vec<Vec<u8>> {
+    let odd = [by_sides().iter().map(written).collect(), cut_and_changed()].concat();
+    let number_of = |job: &Vec<u8>| match done(job) {
+        Ok(Done::Refused(number)) => Some(number),
+        _ => None,
+    };
+    let with_numbers: Vec<(Option<u32>, Vec<u8>)> =
+        odd.into_iter().map(|job| (number_of(&job), job)).collect();
+    let by = |number: u32| with_numbers.iter().filter(move |(n, _)| *n == Some(number)).take(2);
+    [11, 1, 2, 4, 5, 6, 9].into_iter().flat_map(by).map(|(_, job)| job.clone()).collect()
+}
+
+/// The jobs that ask for these runs, in the run program's room.
+pub fn of_questions(questions: &[Question]) -> Vec<Vec<u8>> {
+    let palette = palette();
+    questions.iter().map(|q| written(&asked(q, &palette))).collect()
 }
 
 fn asked(q: &Question, palette: &[[u8; 3]]) -> Job {
@@ -117,7 +144,7 @@ fn asked(q: &Question, palette: &[[u8; 3]]) -> Job {
 }
 
 /// Loops that fill the stack and the outputs of the run program.
-fn full() -> Vec<Question> {
+pub fn full(limits: &[u64]) -> Vec<Question> {
     let pushing = row_over_white(&[(Push, 2), (Push, 1), (Ptr, 1)]);
     let writing = row_over_white(&[(Push, 1), (IntOut, 1), (Push, 1), (Ptr, 1)]);
     let room = Room { stack: 0, outputs: 0 };
@@ -128,7 +155,8 @@ fn full() -> Vec<Question> {
         room,
         input: vec![],
     };
-    [pushing, writing].iter().flat_map(|p| [1_000, 2_000].map(|limit| question(p, limit))).collect()
+    let limited = |picture| limits.iter().map(move |&limit| question(picture, limit));
+    [&pushing, &writing].into_iter().flat_map(limited).collect()
 }
 
 /// The example of the rules.
