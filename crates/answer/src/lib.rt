@@ -1,4 +1,6 @@
 // The run program's answer to a job: the text that it prints, in a lent slice.
+#![tactic(auto)]
+
 ghost use Rattle.std.specs.Prelude.{◌≡◌, ◌≤◌, length};
 ghost use Rattle.base.specs.Lent.{Put, lent};
 ghost use Rattle.colour.specs.Label.{label_of, padded};

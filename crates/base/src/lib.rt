@@ -1,4 +1,6 @@
 // What every layer shares: bounds, digits, writing text and numbers into a lent slice, and filling one.
+#![tactic(auto)]
+
 pub mod digit;
 pub mod edition;
 pub mod fill;

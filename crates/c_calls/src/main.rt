@@ -21,6 +21,8 @@
 //     read_p6        a file of 1 x 2 pixels, and one whose last byte is missing; the file has the width first
 //     write_p6       the file's text tells height from width; with another height the bytes don't fit
 // Each is called once more with too short an answer, which changes nothing.
+#![tactic(auto)]
+
 use libc::STDOUT_FILENO;
 
 const COLOURS: [u8; 15] = [6, 18, 16, 18, 9, 18, 18, 18, 18, 18, 6, 18, 19, 18, 9];

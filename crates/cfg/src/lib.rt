@@ -1,4 +1,6 @@
 // The table of a picture: its regions, their rows and their exits (`build`, both `cfg.rs`).
+#![tactic(auto)]
+
 mod building;
 mod filling;
 mod nodes;

@@ -1,4 +1,6 @@
 // The pointer pair and its turns, the order of the eight attempts, the codel ahead (`flow.rs`).
+#![tactic(auto)]
+
 ghost use Rattle.std.specs.Prelude.{◌≡◌, ◌<◌};
 ghost use Rattle.flow.specs.Pointer.{Valid, rotated, switched, turned_once, offset_of, attempt_of, state_number, of_number};
 ghost use Rattle.flow.specs.Neighbour.{ahead_of};

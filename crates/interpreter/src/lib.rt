@@ -1,4 +1,6 @@
 // The run over a lent table of regions and exits (rule 8), and `determine_runs_forever` (rule 7.5).
+#![tactic(auto)]
+
 mod endless;
 mod running;
 mod stepping;

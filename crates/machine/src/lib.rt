@@ -1,4 +1,6 @@
 // One instruction over the lent stack and outputs.
+#![tactic(auto)]
+
 pub mod output;
 
 ghost use Rattle.std.specs.Prelude.{◌≡◌};

@@ -1,1 +1,2 @@
 // The rules' examples: a table of questions and answers about the definitions. There is no code here.
+#![tactic(auto)]

@@ -2,6 +2,8 @@
 // function over such a struct is proved by a walk of its code, so each one here only makes the struct or takes it apart;
 // `get_at`, on the plain slice and numbers, does the work, and `read_pixel` serves every other caller. `dimensions` has no
 // caller here: it is `program.rs`'s own.
+#![tactic(auto)]
+
 pub mod shape;
 
 ghost use Rattle.std.specs.Prelude.{◌≡◌};

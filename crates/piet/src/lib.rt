@@ -1,4 +1,6 @@
 // The public face: the layers' entry points, and a picture from its pixels to its run's result.
+#![tactic(auto)]
+
 pub mod run_picture;
 
 pub use cfg::{Built, build};

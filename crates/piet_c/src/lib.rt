@@ -1,5 +1,7 @@
 // The entry points for C and Rust: a slice is a pointer and a length; 0 or a refusal's number is returned, and the values
 // that go with it are written into `answer` (rules 12.1, 12.8).
+#![tactic(auto)]
+
 pub mod p6;
 pub mod run_history;
 pub mod run_picture;

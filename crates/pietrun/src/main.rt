@@ -1,5 +1,7 @@
 // The run program: a job on standard input, its answer on standard output. Where standard input can't be read it prints
 // nothing, since what came of the job is no job (rule 13.7).
+#![tactic(auto)]
+
 ghost use Rattle.std.specs.Prelude.{◌≡◌, ◌≤◌, length};
 ghost use Rattle.stream.specs.Responds.{Responds};
 ghost use Rattle.answer.specs.Answer.{Outcome};

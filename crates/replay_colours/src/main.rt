@@ -1,6 +1,8 @@
 // Replays stored answers of the Rust: `stdin` holds pixels, `stdout` what the Rust answers. First the instruction for
 // each of the 400 pairs of colours, a line for each colour that is left; then for each pixel its colour number under the
 // settings 1, 2 and 3, `x` where the pixel is refused.
+#![tactic(auto)]
+
 ghost use Rattle.std.specs.Prelude.{◌≤◌};
 
 use colour::classify::Classified;

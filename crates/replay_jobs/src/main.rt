@@ -1,5 +1,7 @@
 // Replays stored answers of the run program: `stdin` holds jobs, each a length in two bytes, the lower first, and so many
 // bytes; `stdout` has for each what the run program prints, and a line `--`.
+#![tactic(auto)]
+
 use libc::{STDIN_FILENO, STDOUT_FILENO};
 
 fn print_job(job: &[u8]) {

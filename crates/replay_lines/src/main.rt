@@ -2,6 +2,8 @@
 // `stdout` has a line for each, `c A n i B m`: what CharIn, of edition 1, and IntIn take of it, the value pushed, `b` where the line
 // is not UTF-8, or that the step is skipped, each with the bytes consumed. A skipped CharIn is `s`, a skipped IntIn the letter of
 // its reason: `e` no byte is left, `w` white space alone, `n` not a number, `o` out of range.
+#![tactic(auto)]
+
 use base::edition::Edition;
 use libc::{STDIN_FILENO, STDOUT_FILENO};
 use text::input::Taken;

@@ -2,6 +2,8 @@
 // then in two bytes each, the lower first, the room that is lent, the height, the width and a length, and so many bytes, the
 // file or the pixels. `stdout` has a line for each: `r` or `w`, the number that was returned, the cells of the answer, a colon,
 // and the lent bytes after the call, which were all 7 before it.
+#![tactic(auto)]
+
 ghost use Rattle.std.specs.Prelude.{◌+◌, ◌≤◌, length};
 
 use libc::{STDIN_FILENO, STDOUT_FILENO};

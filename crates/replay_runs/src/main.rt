@@ -5,6 +5,8 @@
 // top, and a kind and a value for each output. Where the run is not refused a line follows: how many nodes it never entered,
 // how often it entered each region, and those nodes; and one more: twelve cells that held 9999, which is no exit of a table
 // here, with the exits that it took.
+#![tactic(auto)]
+
 ghost use Rattle.std.specs.Prelude.{◌≤◌, length};
 
 use cfg::Built;

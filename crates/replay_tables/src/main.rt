@@ -1,6 +1,8 @@
 // Replays stored tables, of the Rust in edition 1 and of a model in edition 2: `stdin` holds pictures, each a byte for the
 // edition, the height, the width and the codel's width and then a colour number a pixel; `stdout` has a line for each: the
 // count of regions, the map, the rows and the exits.
+#![tactic(auto)]
+
 ghost use Rattle.std.specs.Prelude.{◌≤◌};
 
 use cfg::Built;

@@ -1,6 +1,8 @@
 // Replays stored traces and counts: `stdin` holds jobs, each a length in two bytes, the lower first, and so many bytes; `stdout` has for each
 // its trace, a newline and a line `--`, and then its counts and a line `--`. A trace ends with what the run wrote, so that the newline
 // may end its last line or stand alone; how many bytes were written stands before them.
+#![tactic(auto)]
+
 use libc::{STDIN_FILENO, STDOUT_FILENO};
 
 fn print_trace(job: &[u8]) {

@@ -1,5 +1,7 @@
 // The run program's answer, as text in a lent slice of bytes. Each writer takes the index to begin at and returns the one
 // after.
+#![tactic(auto)]
+
 ghost use Rattle.std.specs.Prelude.{◌≡◌, ◌+◌, ◌*◌, ◌≤◌, nat_abs, length};
 ghost use Rattle.base.specs.Lent.{Room, Put};
 ghost use Rattle.stack.specs.Stack.{stack_of};

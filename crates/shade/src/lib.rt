@@ -1,4 +1,6 @@
 // How often each codel's block was entered by the run of a job's picture, as text in a lent slice of bytes.
+#![tactic(auto)]
+
 ghost use Rattle.std.specs.Prelude.{◌≡◌, ◌+◌, ◌*◌, ◌≤◌, length};
 ghost use Rattle.base.specs.Lent.{Put};
 ghost use Rattle.picture.specs.Picture.{ceil};

@@ -1,5 +1,7 @@
 // The stack in a lent slice of cells: the bottom is cell 0, and the cells past the depth hold 0. Each function takes the
 // depth and returns the new one.
+#![tactic(auto)]
+
 ghost use Rattle.std.specs.Prelude.{◌≡◌, ◌∷◌, ◌<◌, ◌≤◌, length, drop};
 ghost use Rattle.std.specs.Int.Signed.{lt_z};
 ghost use Rattle.word.specs.Word.{values};

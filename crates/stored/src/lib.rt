@@ -1,4 +1,6 @@
 // The records of the replay programs, and how their cells are printed.
+#![tactic(auto)]
+
 ghost use Rattle.std.specs.Prelude.{◌≡◌, ◌+◌, ◌*◌, ◌<◌, ◌≤◌, length, get_or};
 
 use libc::STDOUT_FILENO;

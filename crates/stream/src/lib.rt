@@ -1,4 +1,6 @@
 // An input read whole and an output written whole, over the C library's read and write.
+#![tactic(auto)]
+
 ghost use Rattle.std.specs.Prelude.{◌≡◌, ◌-◌, ◌≤◌, length};
 ghost use Rattle.stream.specs.Stream.{step_of, is_end, whole_input, Stops};
 ghost use Rattle.stream.specs.Calls.{moved_of, vain_of, goes_on, Makes, Reads};

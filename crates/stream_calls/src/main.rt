@@ -1,6 +1,8 @@
 // Reads from and writes to a descriptor that is none, as a closed standard input is, and prints what came of it: a call that
 // failed is no end of an input, and nothing was written. No contract says what a call of the C library answered, so that a
 // loop that makes up an end is proved; here it prints another text than `stdout`.
+#![tactic(auto)]
+
 use libc::STDOUT_FILENO;
 
 const NONE: i32 = -1;

@@ -1,5 +1,7 @@
 // The lent table: where a region's row and exits stand, and the exit number. Cells are found and exit numbers made and
 // read here and nowhere else.
+#![tactic(auto)]
+
 ghost use Rattle.std.specs.Prelude.{◌≡◌, ◌<◌, ◌≤◌};
 ghost use Rattle.table.specs.Layout.{row_cell, exit_cell, rows_room, exits_room};
 ghost use Rattle.table.specs.ExitNumber.{exit_number, target_of, state_of, instruction_of};

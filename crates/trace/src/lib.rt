@@ -1,4 +1,6 @@
 // The trace of a job's run: a line a move, and its end, as text in a lent slice.
+#![tactic(auto)]
+
 ghost use Rattle.std.specs.Prelude.{◌≡◌, min, ◌+◌, ◌^◌, ◌<◌, ◌≤◌, length};
 ghost use Rattle.machine.specs.Machine.{given, given_of, JudgedIn};
 ghost use Rattle.machine.specs.Held.{slices, store_of};

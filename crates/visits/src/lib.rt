@@ -1,4 +1,6 @@
 // Which regions a run enters, and how often (rule 17).
+#![tactic(auto)]
+
 mod counting;
 mod listing;
 

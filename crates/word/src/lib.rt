@@ -1,5 +1,7 @@
 // The machine's numbers: i64 as the Rust release build has it, with contracts over the integers. Mod alone goes by the
 // edition.
+#![tactic(auto)]
+
 ghost use Rattle.std.specs.Prelude.{◌≡◌, ◌+◌, ◌-◌, ◌*◌, ◌%◌, ◌^◌, ◌<◌, ◌≤◌, pos, negsuc, ◌+ℤ◌, ◌-ℤ◌, ◌*ℤ◌, ◌≢◌, int_div, int_rem, unsigned_abs};
 ghost use Rattle.word.specs.Word.{residue, signed64, wrap, values, quotient};
 ghost use Rattle.word.specs.Word.{floor_quotient, rust_remainder, page_remainder, remainder};
