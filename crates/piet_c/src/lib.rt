@@ -153,8 +153,7 @@ fn of_labelled(r: Labelled) -> One
 }
 
 // The colour numbers of pixels; answer: row, column of the first pixel that is not in the table.
-#[unsafe(no_mangle)]
-pub extern "C" fn piet_classify(
+pub fn piet_classify(
     pixels: &[u8],
     height: usize,
     width: usize,
@@ -173,8 +172,7 @@ pub extern "C" fn piet_classify(
 }
 
 // The label of a region; answer: its length.
-#[unsafe(no_mangle)]
-pub extern "C" fn piet_label(
+pub fn piet_label(
     colour: u8,
     row: usize,
     column: usize,
@@ -192,8 +190,7 @@ pub extern "C" fn piet_label(
 }
 
 // The table of a picture in an edition; answer: the count of regions, the index of the first colour above 19.
-#[unsafe(no_mangle)]
-pub extern "C" fn piet_build(
+pub fn piet_build(
     colours: &[u8],
     height: usize,
     width: usize,
@@ -237,8 +234,7 @@ fn of_forever(r: Forever) -> One
 }
 
 // Whether every node of a table has an exit; answer: 1 for yes, 0 for no.
-#[unsafe(no_mangle)]
-pub extern "C" fn piet_determine_runs_forever(
+pub fn piet_determine_runs_forever(
     n: usize,
     rows: &[u32],
     exits: &[u32],
@@ -256,8 +252,7 @@ pub extern "C" fn piet_determine_runs_forever(
 
 // A run over a table in an edition; answer: status, steps, region, dp, cc, depth, outputs, used, and the number lines
 // skipped: at the end of the input, blank, not a number, out of range.
-#[unsafe(no_mangle)]
-pub extern "C" fn piet_run(
+pub fn piet_run(
     n: usize,
     rows: &[u32],
     exits: &[u32],

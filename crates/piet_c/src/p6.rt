@@ -51,8 +51,7 @@ fn of_written(r: Written) -> One
 }
 
 // The pixels of a P6 file; answer: height, width.
-#[unsafe(no_mangle)]
-pub extern "C" fn piet_read_p6(file: &[u8], pixels: &mut [u8], answer: &mut [u64]) -> u32
+pub fn piet_read_p6(file: &[u8], pixels: &mut [u8], answer: &mut [u64]) -> u32
     ensures { Exported 2 (ReadP6Call file.now pixels.old) pixels.old answer.old result pixels.new answer.new }
 {
     if answer.len() < 2 {
@@ -64,8 +63,7 @@ pub extern "C" fn piet_read_p6(file: &[u8], pixels: &mut [u8], answer: &mut [u64
 }
 
 // Pixels as a P6 file; answer: its length.
-#[unsafe(no_mangle)]
-pub extern "C" fn piet_write_p6(
+pub fn piet_write_p6(
     pixels: &[u8],
     height: usize,
     width: usize,

@@ -7,8 +7,7 @@ ghost use Rattle.piet_c.specs.Calls.{recording, HistoryCall};
 use crate::{RUN_ANSWER, put_ran};
 
 // A run over a table in an edition, with the exit of each step in `taken`, as far as there are cells; answer: the values of `piet_run`.
-#[unsafe(no_mangle)]
-pub extern "C" fn piet_history(
+pub fn piet_history(
     n: usize,
     rows: &[u32],
     exits: &[u32],

@@ -40,8 +40,7 @@ fn put_pictured(answer: &mut [u64], r: Pictured) -> u32
 
 // A run of a picture in an edition; answer: the values of `piet_run`, the count of regions; or row, column of the first pixel
 // that is not in the table.
-#[unsafe(no_mangle)]
-pub extern "C" fn piet_run_picture(
+pub fn piet_run_picture(
     pixels: &[u8],
     height: usize,
     width: usize,

@@ -34,8 +34,7 @@ fn put_visited(answer: &mut [u64], r: Visited) -> u32
 
 // A run over a table in an edition, with each region's visits counted; answer: the values of `piet_run`, the count of nodes never
 // entered.
-#[unsafe(no_mangle)]
-pub extern "C" fn piet_visits(
+pub fn piet_visits(
     n: usize,
     rows: &[u32],
     exits: &[u32],
