@@ -91,4 +91,4 @@ is_not_zero (negsuc n) h = refl
 
 -- a number in range is read back from its bits. The number is explicit: `_` is not found under `mag`
 pub back : (z : ℤ) → mag z < 2 ^ 63 → to_z w64 (of_z w64 z) ≡ z
-back z h = to_z-of_z (record { sfits = h })
+back z h = to_z-of_z {w = w64} (record { sfits = h })

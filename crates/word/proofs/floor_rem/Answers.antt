@@ -1,6 +1,6 @@
 -- `word::floor_rem` meets its contract: on a's side of 0 the remainder is what is left, on the other it falls short of it by a.
 -- The laws for a below 0 are those for a above 0, of the negated numbers. Assumes nothing.
-use Rattle.std.proofs.Common.{◌≡◌, ℕ, zero, suc, ◌%◌, true, false, ℤ, pos, negsuc, ◌+ℤ◌, neg_ℤ, sym, refl, ap, ◌∙◌, true≢false, arith, to_z-of_z, w64, SFits, to_z, of_z, rules, ltb-true, le-ltb, lt-ltb}
+use Rattle.std.proofs.Common.{◌≡◌, ℕ, zero, suc, ◌%◌, true, false, ℤ, pos, negsuc, ◌+ℤ◌, neg_ℤ, sym, refl, ap, ◌∙◌, true≢false, arith, to_z-of_z, w64, SFits, to_z, of_z, ltb-true, le-ltb, lt-ltb}
 use native.Mathlib.Nat.{zero-mod}
 use lib.IntN.{neg_ℤ-neg_ℤ, neg_ℤ-+ℤ}
 use lib.Signed.{lt_z, rem_z}
@@ -8,8 +8,7 @@ use Rattle.word.specs.Word.{residue}
 use Rattle.word.proofs.Signed.{back, Neg, neg, NonNeg, nonneg, is_neg, is_non_neg}
 use Rattle.word.proofs.Wrapping.{Rem, up, down, is_rem}
 use Rattle.word.proofs.FloorLaws.{left, left_pos, left_neg, left_fits}
-use Rattle.word.proofs.floor_rem.Statement.{statement}
-use Rattle.word.proofs.floor_rem.Tie as tie
+use Rattle.word.proofs.floor_rem.Goals as goal
 
 -- a remainder that is not below 0 is the residue, one that is falls short of it by m
 whole : {b r : ℤ} {m : ℕ} → Rem b m r → lt_z r (pos 0) ≡ false → r ≡ pos (residue b m)
@@ -53,60 +52,37 @@ moved-below b (neg k f) t =
     ∙ ap neg_ℤ (short (is-rem-neg b k) (sign r ∙ t))
     ∙ sym (left_neg b k).0
 
-rem_is : (c : tie.After-rem) → to_z w64 (of_z w64 c.rem.result) ≡ rem_z c.before.args.b c.before.args.a
-rem_is c = back c.rem.result c.rem.type-inv ∙ rw (to_z-of_z c.before.ranges.b, to_z-of_z c.before.ranges.a) at c.rem.ensures
+pub returns-then-r-gt0 : goal.returns-then-r-gt0
+returns-then-r-gt0 c =
+    let rem_is : to_z w64 (of_z w64 c.rem-r.result) ≡ rem_z c.args.b c.args.a = back c.rem-r.result c.rem-r.type_inv ∙ rw (to_z-of_z c.ranges.b, to_z-of_z c.ranges.a) at c.rem-r.ensures in
+    let is-neg : Neg c.args.a = is_neg _ c.ranges.a c.if-a-lt0.true in
+    let Sum : Type 0 =
+    to_z w64 (of_z w64 c.rem-r.result) +ℤ to_z w64 (of_z w64 c.args.a) ≡ left c.args.b c.args.a in
+    let sum_below : Sum =
+    rw (rem_is, to_z-of_z c.ranges.a) (moved-below c.args.b is-neg (rw rem_is at c.if-r-gt0.true)) in
+    let fits : SFits w64 (left c.args.b c.args.a) = left_fits c.args.b c.args.a c.ranges.a c.requires.0 in
+    rw sum_below (to_z-of_z fits)
 
-is-neg : (c : tie.Then1) → Neg c.before.before.args.a
-is-neg c = is_neg _ c.before.before.ranges.a c.if1.true
+pub returns-then-a-lt0 : goal.returns-then-a-lt0
+returns-then-a-lt0 c =
+    let rem_is : to_z w64 (of_z w64 c.rem-r.result) ≡ rem_z c.args.b c.args.a = back c.rem-r.result c.rem-r.type_inv ∙ rw (to_z-of_z c.ranges.b, to_z-of_z c.ranges.a) at c.rem-r.ensures in
+    let is-neg : Neg c.args.a = is_neg _ c.ranges.a c.if-a-lt0.true in
+    rem_is ∙ kept-below c.args.b is-neg (rw rem_is at c.if-r-gt0.false)
 
-is-nonneg : (c : tie.Else1) → NonNeg c.before.before.args.a
-is-nonneg c = is_non_neg _ c.before.before.ranges.a c.if1.false
+pub returns-then-r-lt0 : goal.returns-then-r-lt0
+returns-then-r-lt0 c =
+    let rem_is : to_z w64 (of_z w64 c.rem-r.result) ≡ rem_z c.args.b c.args.a = back c.rem-r.result c.rem-r.type_inv ∙ rw (to_z-of_z c.ranges.b, to_z-of_z c.ranges.a) at c.rem-r.ensures in
+    let is-nonneg : NonNeg c.args.a = is_non_neg _ c.ranges.a c.if-a-lt0.false in
+    let Sum : Type 0 =
+    to_z w64 (of_z w64 c.rem-r.result) +ℤ to_z w64 (of_z w64 c.args.a) ≡ left c.args.b c.args.a in
+    let sum-above : Sum =
+    rw (rem_is, to_z-of_z c.ranges.a)
+    (moved c.args.b is-nonneg c.requires.0 (rw rem_is at c.if-r-lt0.true)) in
+    let fits : SFits w64 (left c.args.b c.args.a) = left_fits c.args.b c.args.a c.ranges.a c.requires.0 in
+    rw sum-above (to_z-of_z fits)
 
--- the sum where a is added, on each side of 0
-abbrev Sum : tie.After-rem → Type 0
-Sum c =
-    let s = c.before in
-    to_z w64 (of_z w64 c.rem.result) +ℤ to_z w64 (of_z w64 s.args.a) ≡ left s.args.b s.args.a
-
-sum_below : (c : tie.Then2) → Sum c.before.before
-sum_below c =
-    let k = c.before.before in
-    rw (rem_is k, to_z-of_z k.before.ranges.a) (moved-below k.before.args.b (is-neg c.before) (rw (rem_is k) at c.if2.true))
-
-sum-above : (c : tie.Then3) → Sum c.before.before
-sum-above c =
-    let k = c.before.before in
-    rw (rem_is k, to_z-of_z k.before.ranges.a)
-    (moved k.before.args.b (is-nonneg c.before) k.before.requires.0 (rw (rem_is k) at c.if3.true))
-
-fits : (c : tie.After-rem) → SFits w64 (left c.before.args.b c.before.args.a)
-fits c = left_fits c.before.args.b c.before.args.a c.before.ranges.a c.before.requires.0
-
-rem-requires : tie.Need-rem-requires
-rem-requires c κs = search rules
-
-add-result : tie.Need-overflow-add-result
-add-result c = rw (sum_below c) (fits c.before.before)
-
-returns : tie.Need-returns
-returns c = rw (sum_below c) (to_z-of_z (fits c.before.before))
-
-returns-2 : tie.Need-returns-2
-returns-2 c =
-    let k = c.before.before in
-    rem_is k ∙ kept-below k.before.args.b (is-neg c.before) (rw (rem_is k) at c.if2.false)
-
-add-result-2 : tie.Need-overflow-add-result-2
-add-result-2 c = rw (sum-above c) (fits c.before.before)
-
-returns-3 : tie.Need-returns-3
-returns-3 c = rw (sum-above c) (to_z-of_z (fits c.before.before))
-
-returns-4 : tie.Need-returns-4
-returns-4 c =
-    let k = c.before.before in
-    rem_is k ∙ kept k.before.args.b (is-nonneg c.before) k.before.requires.0 (rw (rem_is k) at c.if3.false)
-
-pub floor-rem-spec : {M : Type 1} → statement M
-floor-rem-spec =
-    tie.close (tie.spec rem-requires add-result returns returns-2 add-result-2 returns-3 returns-4)
+pub returns : goal.returns
+returns c =
+    let rem_is : to_z w64 (of_z w64 c.rem-r.result) ≡ rem_z c.args.b c.args.a = back c.rem-r.result c.rem-r.type_inv ∙ rw (to_z-of_z c.ranges.b, to_z-of_z c.ranges.a) at c.rem-r.ensures in
+    let is-nonneg : NonNeg c.args.a = is_non_neg _ c.ranges.a c.if-a-lt0.false in
+    rem_is ∙ kept c.args.b is-nonneg c.requires.0 (rw rem_is at c.if-r-lt0.false)
