@@ -1,12 +1,8 @@
 -- `colour::decode::pair_table` meets its contract: all four hundred entries of the source are the rule's. Assumes nothing.
 use Rattle.colour.specs.Decode.{decode_of}
 use Rattle.colour.proofs.DecodeLaws.{all_right}
-use Rattle.colour.proofs.decode.pair_table.Statement.{statement}
-use Rattle.colour.proofs.decode.pair_table.Tie as tie
+use Rattle.colour.proofs.decode.pair_table.Goals as goal
 
-returns : tie.Need-returns
+pub returns : goal.returns
 unfolding decode_of
 returns c = all_right _ tt
-
-pub pair-table-spec : {M : Type 1} → statement M
-pair-table-spec = tie.close (tie.spec returns)
