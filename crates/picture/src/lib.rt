@@ -1,7 +1,6 @@
-// Reading a picture (`program.rs`). `PietSource` is one small value that carries the colour slice with its sides. A
-// function over such a struct is proved by a walk of its code, so each one here only makes the struct or takes it apart;
-// `get_at`, on the plain slice and numbers, does the work, and `read_pixel` serves every other caller. `dimensions` has no
-// caller here: it is `program.rs`'s own.
+// Reading a picture (`program.rs`). `PietSource` is one small value that carries the colour slice with its sides. `get_at`,
+// on the plain slice and numbers, does the work, and `read_pixel` serves every other caller. `dimensions` has no caller
+// here: it is `program.rs`'s own.
 #![tactic(auto)]
 
 pub mod shape;
@@ -80,7 +79,7 @@ impl<'a> PietSource<'a> {
     }
 }
 
-// From a plain slice and numbers through the struct: whoever calls it needs no walk.
+// From a plain slice and numbers through the struct.
 pub fn read_pixel(prog: &[u8], height: u32, width: u32, row: u32, column: u32) -> Read
     ensures { result ≡ get_at prog.now height width row column }
 {
