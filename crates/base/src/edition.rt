@@ -3,7 +3,7 @@ ghost use Rattle.std.specs.Prelude.{◌≡◌};
 ghost use Rattle.base.specs.Edition.{unknown_edition, edition_of};
 
 // The rules of the Rust program, and those of the public page.
-#[derive(Drop)]
+#[derive(Clone, Copy)]
 pub enum Edition {
     Rust,
     Page,
