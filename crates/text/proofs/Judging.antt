@@ -5,7 +5,7 @@
 --     judged-start               a run may start
 --     int-judged, char-judged    after IntIn, and after CharIn in its edition; and BadInput comes only where a line begins
 -- Assumes nothing.
-use Prim.Native.Nat.{ℕ, zero, suc, ◌+◌, ◌-◌, ◌<◌, ◌≤◌}
+use Prim.Native.Nat.{ℕ, zero, suc, ◌+◌, ◌-◌, ◌<◌}
 use mathlib.Core.Path.{◌≡◌, refl, sym, ap, ◌∙◌, subst}
 use mathlib.Core.Bool.{Bool, true, false, not, cond, false≢true}
 use mathlib.Core.List.{List, [], ◌∷◌, ◌++◌, append-nil, append_assoc}
@@ -13,7 +13,7 @@ use native.Mathlib.Omega.{arith}
 use borrow.Author.Tests.{eq-eqb, eqb-true}
 use lib.Dec.{eqb}
 use lib.IntN.{pos}
-use lib.ListN.{length, get_or, take, drop, length-drop, take-append-drop}
+use lib.ListN.{length, get_or, drop, length-drop, take-append-drop}
 use lib.Seq.{get_or-drop}
 use Rattle.base.specs.declared.edition.Edition.{Edition}
 use Rattle.base.specs.declared.edition.Edition.TheVariants.{Rust, Page}

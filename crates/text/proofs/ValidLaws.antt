@@ -1,5 +1,5 @@
 -- UTF-8, character by character, as `Reads` finds it.
---     is-char, no_char         what `Reads` says of a character, by the answer
+--     is-char, else_tag, no_char   what `Reads` says of a character, by the answer
 --     read-on, read-within     a character that was read ends after its beginning, and within the bytes
 --     valid-more, valid-rest   bytes that begin with a character are UTF-8 exactly when the bytes after it are
 --     valid-none, bad-never    no bytes are UTF-8; bytes that begin no character are not
@@ -7,7 +7,7 @@
 use Prim.Native.Nat.{ℕ, ◌+◌, ◌-◌, ◌<◌, ◌≤◌}
 use mathlib.Core.Path.{◌≡◌, refl, sym, ap, ◌∙◌, subst}
 use mathlib.Core.List.{List, [], ◌∷◌, ◌++◌}
-use mathlib.Core.Logic.{◌⊎◌, ⊎_elim}
+use mathlib.Core.Logic.{◌⊎◌, inl, inr, ⊎_elim}
 use native.Mathlib.Omega.{arith}
 use denote.Enum.Declared.{tag_of}
 use lib.ListN.{length, drop, length-append, length-drop, drop_of_length-le}
@@ -26,6 +26,12 @@ module _ (s : List ℕ) (at : ℕ) (r : Decoded) where
       subst (λ (x : ℕ). IsChar s at c x) o (subst (λ (x : ℕ). IsChar s at x m) p k)
   is-char (bad h f e) c n q = let z : ◌≡◌ {A = ℕ} 0 1 = cc in absurd (omega arith)
   is-char (past h e) c n q = let z : ◌≡◌ {A = ℕ} 0 1 = cc in absurd (omega arith)
+
+  -- what is no character's answer is one of the other two
+  pub else_tag : Reads s at r → ((c n : ℕ) → r ≡ Char c n → ⊥) → (tag_of the_type r ≡ 1) ⊎ (tag_of the_type r ≡ 2)
+  else_tag (char d m k e) f = absurd (f d m e)
+  else_tag (bad l f e) g = inl (ap (tag_of the_type) e)
+  else_tag (past l e) g = inr (ap (tag_of the_type) e)
 
   -- what the `else` of a `let` on a character knows, within the bytes
   pub no_char : Reads s at r → (tag_of the_type r ≡ 1) ⊎ (tag_of the_type r ≡ 2) → at < length s → (c n : ℕ) → IsChar s at c n → ⊥

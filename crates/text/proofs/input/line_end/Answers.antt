@@ -1,0 +1,19 @@
+use mathlib.Core.Path.{refl}
+use native.Mathlib.Omega.{arith}
+use Rattle.text.proofs.LineLaws.{line_none, line_here, line_more}
+use Rattle.text.proofs.input.line_end.Goals as goal
+
+pub loop-i-init : goal.loop-i-init
+loop-i-init c = refl
+
+pub returns-then-input-i-eq10 : goal.returns-then-input-i-eq10
+returns-then-input-i-eq10 c =
+    omega (arith, line_here c.args.input.now c.loop-i.i c.loop-i-test.true c.if-input-i-eq10.true)
+
+pub loop-i-preserved : goal.loop-i-preserved
+loop-i-preserved c =
+    omega (arith, line_more c.args.input.now c.loop-i.i c.loop-i-test.true c.if-input-i-eq10.false)
+
+pub returns : goal.returns
+returns c =
+    omega (arith, line_none c.args.input.now c.loop-i.i c.loop-i-test.false)
