@@ -9,13 +9,13 @@ ghost use Rattle.std.specs.Prelude.{◌≡◌};
 ghost use Rattle.picture.specs.Source.{cell_at, get_at};
 
 // What stands at a position: a colour number, or nothing, where it is outside.
-#[derive(Drop)]
+#[derive(Clone, Copy)]
 pub enum Read {
     Colour(u8),
     Outside,
 }
 
-#[derive(Drop)]
+#[derive(Clone, Copy)]
 pub struct PietSource<'a> {
     pub prog: &'a [u8],
     pub height: u32,
@@ -23,7 +23,7 @@ pub struct PietSource<'a> {
 }
 
 // A picture's sides in pixels.
-#[derive(Drop)]
+#[derive(Clone, Copy)]
 pub struct Sides {
     pub height: u32,
     pub width: u32,

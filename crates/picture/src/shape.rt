@@ -4,7 +4,7 @@ ghost use Rattle.picture.specs.Picture.{ceil, picture_of, framed, Frames, Inside
 
 use crate::{Read, read_pixel};
 
-#[derive(Drop)]
+#[derive(Clone, Copy)]
 pub struct Shape {
     pub height: usize,
     pub width: usize,
