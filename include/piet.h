@@ -1,5 +1,5 @@
 /*
- * The Piet library, libpiet_c.a (made by `rt staticlib piet_c`, for x86-64): from pixels to the end of a run.
+ * The Piet library, libpiet_c.a (made by `tools/archive`, for x86-64): from pixels to the end of a run.
  *
  *   piet_classify   pixels            -> colour numbers
  *   piet_build      colour numbers    -> the picture's table: regions and their exits

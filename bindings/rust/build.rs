@@ -1,4 +1,4 @@
-//! Says where `libpiet_c.a` is: in the folder that PIET_LIB names, else where `rt staticlib piet_c` writes it.
+//! Says where `libpiet_c.a` is: in the folder that PIET_LIB names, else where `tools/archive` writes it.
 use std::path::{Path, PathBuf};
 
 fn main() {
@@ -8,7 +8,7 @@ fn main() {
     println!("cargo:rerun-if-changed={}", archive.display());
     let Ok(found) = archive.canonicalize() else {
         eprintln!("there is no {}", archive.display());
-        eprintln!("make it by `rt staticlib piet_c`, or name its folder in PIET_LIB");
+        eprintln!("make it by `tools/archive`, or name its folder in PIET_LIB");
         std::process::exit(1);
     };
     let folder = found.parent().expect("a file lies in a folder");

@@ -3,7 +3,7 @@
  * skipped, once refused for too short an answer, and some refused for another reason. The calls are those of the program
  * crates/c_calls, which makes them by position, and so is what is printed:
  *
- *     rt staticlib piet_c
+ *     tools/archive
  *     gcc examples/c/calls.c -Iinclude -Ltarget/staticlib -lpiet_c -o calls
  *     ./calls | diff crates/c_calls/stdout -
  *

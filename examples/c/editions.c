@@ -16,7 +16,7 @@
  * the middle. In edition 1 a slide is lost at its eighth turn, so that this one is, and no attempt is left. In edition 2
  * it is lost only where it comes back to a codel with a dp that it had there: it lands in the middle.
  *
- *     rt staticlib piet_c
+ *     tools/archive
  *     gcc examples/c/editions.c -Iinclude -Ltarget/staticlib -lpiet_c -o editions
  *     ./editions | diff examples/c/editions.out -
  */

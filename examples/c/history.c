@@ -15,7 +15,7 @@
  * An exit has the pointers before its instruction: a turn shows in the move after it. There are cells for eight exits. Of
  * the last run they have the first eight, and the answer tells how many there were.
  *
- *     rt staticlib piet_c
+ *     tools/archive
  *     gcc examples/c/history.c -Iinclude -Ltarget/staticlib -lpiet_c -o history
  *     ./history | diff examples/c/history.out -
  */

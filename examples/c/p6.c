@@ -2,7 +2,7 @@
  * Runs a picture from a Netpbm P6 file, as a marker of pictures would, and prints what the run told, or `refused N`. With
  * a second name the picture is written there again as P6, in its shortest form.
  *
- *     rt staticlib piet_c
+ *     tools/archive
  *     gcc examples/c/p6.c -Iinclude -Ltarget/staticlib -lpiet_c -o p6
  *     ./p6 examples/hello.ppm copy.ppm | diff examples/hello.out -
  *     ./p6 copy.ppm | diff examples/hello.out -

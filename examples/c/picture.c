@@ -1,7 +1,7 @@
 /*
  * A picture run in one call: light red and red, three steps. Prints what the run program prints for examples/worked.job.
  *
- *     rt staticlib piet_c
+ *     tools/archive
  *     gcc examples/c/picture.c -Iinclude -Ltarget/staticlib -lpiet_c -o picture
  *     ./picture | diff examples/c/worked.out -
  */

@@ -2,7 +2,7 @@
  * Why number lines were skipped: twelve steps that would read a number each. The table is made by hand, of one region that
  * IntIn leads back to.
  *
- *     rt staticlib piet_c
+ *     tools/archive
  *     gcc examples/c/skipped.c -Iinclude -Ltarget/staticlib -lpiet_c -o skipped
  *     ./skipped | diff examples/c/skipped.out -
  */

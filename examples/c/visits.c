@@ -14,7 +14,7 @@
  * From 3 every coloured block is entered, those of the loop three times. From 0 the last block never is: 0 is written before it is
  * tested, -1 is left, and the run ends at its limit. The counts show the loop, and the list shows what the run missed.
  *
- *     rt staticlib piet_c
+ *     tools/archive
  *     gcc examples/c/visits.c -Iinclude -Ltarget/staticlib -lpiet_c -o visits
  *     ./visits | diff examples/c/visits.out -
  */

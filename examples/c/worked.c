@@ -2,7 +2,7 @@
  * The smallest job call by call, as a program that keeps the table would make it: light red and red, three steps. picture.c
  * does the same in one call.
  *
- *     rt staticlib piet_c
+ *     tools/archive
  *     gcc examples/c/worked.c -Iinclude -Ltarget/staticlib -lpiet_c -o worked
  *     ./worked | diff examples/c/worked.out -
  */
