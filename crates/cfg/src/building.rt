@@ -11,7 +11,7 @@ use picture::shape::{Shape, shape_of};
 use table::{exits_room, rows_room};
 
 // What a call answers: done, with the count of regions, or a refusal.
-#[derive(Drop)]
+#[derive(Clone, Copy)]
 pub enum Built {
     Done { regions: usize },
     UnknownEdition,

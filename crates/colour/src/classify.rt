@@ -23,7 +23,7 @@ use base::fill::fill_u8;
 use base::limits::wrong_side;
 
 // What a call answers: done, or a refusal, with the place of an unknown pixel.
-#[derive(Drop)]
+#[derive(Clone, Copy)]
 pub enum Classified {
     Done,
     Size,
@@ -34,7 +34,7 @@ pub enum Classified {
 }
 
 // An answer in numbers: its own (rule 12.2), and the place of an unknown pixel, zeros where there is none.
-#[derive(Drop)]
+#[derive(Clone, Copy)]
 pub struct Told {
     pub number: u32,
     pub row: usize,

@@ -8,7 +8,7 @@ use base::fill::fill_u8;
 use base::put::{put_number, put_word};
 
 // What a call answers: the label's length, or refusal 12.
-#[derive(Drop)]
+#[derive(Clone, Copy)]
 pub enum Labelled {
     Done { length: usize },
     Label,

@@ -12,7 +12,7 @@ use picture::shape::Shape;
 
 // What is ahead is shut; it is the coloured codel at (row, col); it is the white codel at (row, col), and the slide from
 // there is lost, or lands. The white codel is kept in both, since its region is found even where the slide is lost.
-#[derive(Drop)]
+#[derive(Clone, Copy)]
 pub enum Way {
     Closed,
     Step {

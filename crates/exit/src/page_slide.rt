@@ -15,7 +15,7 @@ use picture::shape::Shape;
 // is kept in its place: the powers of two (Brent). Once a power is no less than the way to the loop, nor than the loop, the
 // kept station is met again after one round: so there is no record of stations, and a lost slide takes at most three
 // times as many looks as there are stations on it.
-#[derive(Drop)]
+#[derive(Clone, Copy)]
 struct Watch {
     row: usize,
     col: usize,
@@ -25,7 +25,7 @@ struct Watch {
 }
 
 // Where a slide ends, and how many looks that took.
-#[derive(Drop)]
+#[derive(Clone, Copy)]
 struct Walked {
     end: Slid,
     looks: usize,

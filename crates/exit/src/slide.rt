@@ -13,7 +13,7 @@ use picture::shape::Shape;
 const LAST_TURN: u8 = 8;
 
 // What stands one codel along dp; black and what is outside are shut (rule 4.3).
-#[derive(Drop)]
+#[derive(Clone, Copy)]
 pub enum Sight {
     Shut,
     White { row: usize, col: usize },
@@ -21,7 +21,7 @@ pub enum Sight {
 }
 
 // Where a slide ends.
-#[derive(Drop)]
+#[derive(Clone, Copy)]
 pub enum Slid {
     Landed {
         row: usize,

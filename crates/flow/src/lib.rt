@@ -6,7 +6,7 @@ ghost use Rattle.flow.specs.Pointer.{Valid, rotated, switched, turned_once, offs
 ghost use Rattle.flow.specs.Neighbour.{ahead_of};
 
 // The pointer pair, by value: dp right, down, left, up 0 to 3; cc left, right 0, 1.
-#[derive(Drop)]
+#[derive(Clone, Copy)]
 pub struct PointerState {
     pub dp: u8,
     pub cc: u8,
@@ -90,7 +90,7 @@ impl PointerState {
 }
 
 // The codel one step along dp, or none at the edge.
-#[derive(Drop)]
+#[derive(Clone, Copy)]
 pub enum Beyond {
     Codel { row: usize, col: usize },
     Outside,

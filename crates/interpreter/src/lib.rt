@@ -13,7 +13,7 @@ pub use stepping::{Moved, step};
 pub use validity::{WRONG_TABLE, valid};
 
 // Where a run stands, beside the lent slices.
-#[derive(Drop)]
+#[derive(Clone, Copy)]
 pub struct State {
     pub region: u32,
     pub steps: u64,
@@ -21,21 +21,21 @@ pub struct State {
 }
 
 // What a run comes to.
-#[derive(Drop)]
+#[derive(Clone, Copy)]
 pub struct Ended {
     pub stop: Stop,
     pub at: State,
 }
 
 // What a call answers: a refusal's number, or where the run stopped.
-#[derive(Drop)]
+#[derive(Clone, Copy)]
 pub enum Ran {
     Refused(u32),
     Finished(Ended),
 }
 
 // Whether every node has an exit; refusal 10.
-#[derive(Drop)]
+#[derive(Clone, Copy)]
 pub enum Forever {
     Refused,
     Yes,

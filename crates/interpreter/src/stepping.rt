@@ -15,7 +15,7 @@ use machine::{Done, Stop, Terms};
 use table::{LOST_SLIDE, SIZE, exit_cell, instruction_of, row_cell, state_of, target_of};
 
 // What a step comes to: the place that it reaches, and the exit by which it does.
-#[derive(Drop)]
+#[derive(Clone, Copy)]
 pub enum Moved {
     To { next: State, by: u32 },
     Halted(Stop),

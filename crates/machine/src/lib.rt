@@ -19,7 +19,7 @@ use text::input::Taken;
 use text::number::Reason;
 
 // The instructions; Nothing is what a slide's or a black region's exit carries.
-#[derive(Drop)]
+#[derive(Clone, Copy)]
 pub enum Op {
     Nothing,
     Push,
@@ -38,7 +38,7 @@ pub enum Op {
 
 // The terms of a run: the edition of the rules, the steps that it may make, and whether it only finds out that input is
 // needed.
-#[derive(Drop)]
+#[derive(Clone, Copy)]
 pub struct Terms {
     pub edition: Edition,
     pub limit: u64,
@@ -46,7 +46,7 @@ pub struct Terms {
 }
 
 // Why a run stops.
-#[derive(Drop)]
+#[derive(Clone, Copy)]
 pub enum Stop {
     Completed,
     MaxSteps,
@@ -57,7 +57,7 @@ pub enum Stop {
 }
 
 // How many number lines were skipped, by the reason (rule 10.9).
-#[derive(Drop)]
+#[derive(Clone, Copy)]
 pub struct Skips {
     pub ended: u64,
     pub blank: u64,
@@ -66,7 +66,7 @@ pub struct Skips {
 }
 
 // What was read of the input: the bytes used; awaiting: an input instruction was met in abstract mode; the lines skipped.
-#[derive(Drop)]
+#[derive(Clone, Copy)]
 pub struct Reading {
     pub used: usize,
     pub awaiting: bool,
@@ -74,7 +74,7 @@ pub struct Reading {
 }
 
 // What an instruction works on, beside the lent slices.
-#[derive(Drop)]
+#[derive(Clone, Copy)]
 pub struct Core {
     pub pointers: PointerState,
     pub depth: usize,
@@ -83,7 +83,7 @@ pub struct Core {
 }
 
 // What an instruction leaves, or why it can't be kept.
-#[derive(Drop)]
+#[derive(Clone, Copy)]
 pub enum Done {
     Kept(Core),
     Stops(Stop),

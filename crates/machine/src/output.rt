@@ -5,7 +5,7 @@ ghost use Rattle.stack.specs.Stack.{Lies};
 ghost use Rattle.machine.specs.Output.{Holds, Writes, Puts, int_out, char_out};
 
 // What an output instruction leaves: the depth and the number of outputs, or no room for it.
-#[derive(Drop)]
+#[derive(Clone, Copy)]
 pub enum Wrote {
     Kept(usize, usize),
     NoRoom,

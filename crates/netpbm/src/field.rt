@@ -10,14 +10,14 @@ use base::digit::is_digit;
 const CAP: usize = 1025;
 
 // A number at an index: its value, no more than CAP, and the index after its digits.
-#[derive(Drop)]
+#[derive(Clone, Copy)]
 pub struct Number {
     pub value: usize,
     pub next: usize,
 }
 
 // A gap and a number that were looked for.
-#[derive(Drop)]
+#[derive(Clone, Copy)]
 pub enum Found {
     At(Number),
     Missing,

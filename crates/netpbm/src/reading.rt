@@ -7,7 +7,7 @@ use base::limits::wrong_side;
 use base::put::put_word;
 
 // What a call answers: the size, or a refusal.
-#[derive(Drop)]
+#[derive(Clone, Copy)]
 pub enum Read {
     Done { height: usize, width: usize },
     Header,
@@ -17,7 +17,7 @@ pub enum Read {
 }
 
 // What stands before the pixels: the sides, up to the cap of a field's value, and where the pixels start.
-#[derive(Drop)]
+#[derive(Clone, Copy)]
 pub enum Heading {
     Whole {
         height: usize,

@@ -19,7 +19,7 @@ use interpreter::{Ended, Ran};
 
 // What a call answers: where the run stopped and how many regions the picture has, or a refusal with the place of an
 // unknown pixel.
-#[derive(Drop)]
+#[derive(Clone, Copy)]
 pub enum Pictured {
     Finished {
         ended: Ended,

@@ -28,13 +28,13 @@ use colour::label::Labelled;
 use interpreter::{Ended, Forever, Ran};
 
 // An answer of one value, and of two.
-#[derive(Drop)]
+#[derive(Clone, Copy)]
 struct One {
     number: u32,
     value: u64,
 }
 
-#[derive(Drop)]
+#[derive(Clone, Copy)]
 struct Two {
     number: u32,
     first: u64,

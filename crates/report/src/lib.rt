@@ -28,7 +28,7 @@ use base::put::{put_number, put_word};
 
 // What a run came to, in numbers: how it ended, its steps, its pointers, how many cells its stack has and how many outputs
 // it made.
-#[derive(Drop)]
+#[derive(Clone, Copy)]
 pub struct Figures {
     pub status: u64,
     pub steps: u64,

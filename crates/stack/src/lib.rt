@@ -77,7 +77,7 @@ fn undo(stack: &mut [i64], depth: usize, edition: Edition) -> usize
 }
 
 // The instructions that take two values and give at most one: one function and one proof for the six.
-#[derive(Drop)]
+#[derive(Clone, Copy)]
 pub enum Pairing {
     Add,
     Sub,
@@ -220,7 +220,7 @@ pub fn roll(stack: &mut [i64], depth: usize, edition: Edition) -> usize
 }
 
 // What an instruction that may need one cell more comes to: the depth, or no room for it.
-#[derive(Drop)]
+#[derive(Clone, Copy)]
 pub enum Grown {
     To(usize),
     Full,

@@ -9,7 +9,7 @@ use libc::types::timespec;
 use libc::{EAGAIN, EINTR};
 
 // What one call of read or write came to.
-#[derive(Drop)]
+#[derive(Clone, Copy)]
 pub enum Step {
     Moved(usize),
     End,
@@ -18,7 +18,7 @@ pub enum Step {
 }
 
 // Where reading or writing stopped: the bytes moved, and what the last call came to.
-#[derive(Drop)]
+#[derive(Clone, Copy)]
 pub struct Stop {
     pub done: usize,
     pub last: Step,

@@ -14,7 +14,7 @@ use text::utf8::is_scalar;
 const CHARACTER: u8 = 1;
 
 // A value as a character: the Unicode scalar that it is, or none.
-#[derive(Drop)]
+#[derive(Clone, Copy)]
 pub(crate) enum Character {
     Scalar(u32),
     Other,

@@ -12,7 +12,7 @@ use crate::white::trim;
 use base::edition::Edition;
 
 // A value to push, or why there is none, with the place where reading goes on; or a line that is not UTF-8.
-#[derive(Drop)]
+#[derive(Clone, Copy)]
 pub enum Taken {
     Push { value: i64, next: usize },
     Skip { next: usize, why: Reason },

@@ -7,7 +7,7 @@ ghost use Rattle.text.specs.Number.{plus, minus, parsed};
 use base::digit::is_digit;
 
 // Why a line is skipped (rule 10.8).
-#[derive(Drop)]
+#[derive(Clone, Copy)]
 pub enum Reason {
     // There is no line: no byte is left.
     Ended,
@@ -20,14 +20,14 @@ pub enum Reason {
 }
 
 // What a line gives: a number to push, or the reason why it is skipped.
-#[derive(Drop)]
+#[derive(Clone, Copy)]
 pub enum Number {
     Value(i64),
     Skipped(Reason),
 }
 
 // The value of digits without a sign, up to a limit.
-#[derive(Drop)]
+#[derive(Clone, Copy)]
 enum Magnitude {
     Is(u64),
     Large,

@@ -5,7 +5,7 @@ ghost use Rattle.text.specs.LongChar.{FirstByte, TailAt};
 ghost use Rattle.text.specs.Utf8.{scalar, Reads, Valid};
 
 // What stands at a place of the bytes.
-#[derive(Drop)]
+#[derive(Clone, Copy)]
 pub enum Decoded {
     // The character cp, with the place after it.
     Char { cp: u32, next: usize },
@@ -16,7 +16,7 @@ pub enum Decoded {
 }
 
 // What a byte after the first of a character carries: six bits, or it is no such byte.
-#[derive(Drop)]
+#[derive(Clone, Copy)]
 pub(crate) enum Tail {
     Bits(u32),
     Other,

@@ -35,7 +35,7 @@ const ROOM: usize = 524288;
 const MOST_LINES: u64 = 1000;
 
 // Where a run stands after a move, and the index after the move's line.
-#[derive(Drop)]
+#[derive(Clone, Copy)]
 pub(crate) struct Shown {
     pub at: State,
     pub end: usize,

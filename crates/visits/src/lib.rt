@@ -16,7 +16,7 @@ use listing::list_unvisited;
 use machine::Terms;
 
 // What a call answers: a refusal's number, or where the run stopped and how many nodes it never entered.
-#[derive(Drop)]
+#[derive(Clone, Copy)]
 pub enum Visited {
     Refused(u32),
     Finished { ended: Ended, unvisited: usize },

@@ -9,7 +9,7 @@ ghost use Rattle.word.specs.Word.{floor_quotient, rust_remainder, page_remainder
 use base::edition::Edition;
 
 // What a division gives: a value, or nothing where it cannot be done.
-#[derive(Drop)]
+#[derive(Clone, Copy)]
 pub enum Divided {
     Value(i64),
     Nothing,
