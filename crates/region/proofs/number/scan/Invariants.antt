@@ -1,0 +1,13 @@
+-- `region::number::scan` meets its contract. The loop's invariant: the codels before i are numbered (`Numbering`). Assumes nothing.
+use mathlib.Core.Path.{◌≡◌}
+use Prim.Native.Nat.{◌-◌, ◌≤◌}
+use lib.ListN.{length}
+use Rattle.region.specs.Grid.{grid_at}
+use Rattle.region.specs.Steps.{Numbered}
+use Rattle.region.proofs.number.scan.Given as goal
+
+abbrev pub invariant-loop-i : goal.invariant-loop-i
+invariant-loop-i l = (l.i ≤ l.count) × Numbered (grid_at l.colours l.s) l.i l.found l.initial.map l.initial.work l.map l.work × (length l.map ≡ length l.initial.map) × (length l.work ≡ length l.initial.work)
+
+abbrev pub decreases-loop-i : goal.decreases-loop-i
+decreases-loop-i l = l.count - l.i

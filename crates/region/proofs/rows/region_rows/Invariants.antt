@@ -1,0 +1,11 @@
+-- `region::rows::region_rows` meets its contract. The loop's invariant: the codels before i are counted (`Tabling`). Assumes nothing.
+use Prim.Native.Nat.{◌-◌}
+use Rattle.region.specs.Grid.{grid_at}
+use Rattle.region.proofs.Tabling.{Counting}
+use Rattle.region.proofs.rows.region_rows.Given as goal
+
+abbrev pub invariant-loop-i : goal.invariant-loop-i
+invariant-loop-i l = Counting (grid_at l.colours l.s) l.s.codel l.i l.map l.initial.rows l.rows
+
+abbrev pub decreases-loop-i : goal.decreases-loop-i
+decreases-loop-i l = l.count - l.i
