@@ -100,7 +100,10 @@ def turned_before(all_names, rows):
     old = {}
     known = all_names | set(rows.values())
     for path in [*files(".edit"), *pages()]:
-        for name in WORD.findall(read(path)):
+        text = read(path)
+        if path.endswith(".md"):
+            text = " ".join(span[1:-1] for span in SPAN.findall(text))
+        for name in WORD.findall(text):
             new = in_snake_case(name)
             if name not in rows and name not in known and new != name and not name[:1].isupper() and new in known:
                 old[name] = new
@@ -188,4 +191,5 @@ def main():
     print(f"{len(rows)} names, {changed} files")
 
 
-main()
+if __name__ == "__main__":
+    main()
