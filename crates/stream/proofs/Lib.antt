@@ -1,4 +1,3 @@
 -- Laws of what a call comes to, and of the loop of calls.
-pub mod Judging
 pub mod Turning
 pub mod Only

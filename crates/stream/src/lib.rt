@@ -1,12 +1,14 @@
-// An input read whole and an output written whole, over the C library's read and write.
+// An input read whole and an output written whole, over a reader's read and a writer's write.
 #![tactic(auto)]
 
-ghost use Rattle.std.specs.Prelude.{◌≡◌, ◌-◌, ◌≤◌, length};
+ghost use Rattle.std.specs.Prelude.{◌≡◌, ◌-◌, ◌≤◌, length, pos, MatchOption};
+ghost use Rattle.std.specs.IoError.{raw_os_error};
 ghost use Rattle.stream.specs.Stream.{step_of, is_end, whole_input, Stops};
 ghost use Rattle.stream.specs.Calls.{moved_of, vain_of, goes_on, Makes, Reads};
 
-use libc::types::timespec;
-use libc::{EAGAIN, EINTR};
+use std::io::{Error, ErrorKind, Read, Write};
+use std::time::{Clock, Duration};
+use std::{io, thread};
 
 // What one call of read or write came to.
 #[derive(Clone, Copy)]
@@ -23,6 +25,11 @@ pub struct Stop {
     pub done: usize,
     pub last: Step,
 }
+
+// The error numbers of a call that a signal interrupted, and of one that could do nothing yet.
+const EINTR: i32 = 4;
+
+const EAGAIN: i32 = 11;
 
 // So many calls in vain, with a millisecond's wait after each, take more than 49 days.
 const PATIENCE: u64 = 4294967296;
@@ -58,27 +65,19 @@ fn moved(step: Step) -> usize
 }
 
 // Waits a millisecond, or less where a signal comes.
-fn pause() {
-    let asked = timespec {
-        tv_sec: 0,
-        tv_nsec: 1000000,
-    };
-    let mut left = timespec {
-        tv_sec: 0,
-        tv_nsec: 0,
-    };
-    libc::nanosleep(&asked, &mut left);
+fn pause(clock: &impl Clock) {
+    thread::sleep(clock, Duration::from_millis(1));
 }
 
 // Waits where the call is to be made again, and counts it as one in vain.
-fn waited(step: Step) -> u64
+fn waited(clock: &impl Clock, step: Step) -> u64
     ensures { result ≡ vain_of step }
 {
     match step {
         Step::Moved(_) => 0,
         Step::End => 0,
         Step::Again => {
-            pause();
+            pause(clock);
             1
         }
         Step::Failed => 0,
@@ -96,50 +95,61 @@ fn goes_on(last: Step) -> bool
     }
 }
 
+// The number of the error that a call left; 0 where it has none.
+fn number_of(error: &Error) -> i32
+    ensures { MatchOption (raw_os_error error.now) (result ≡ pos 0) (λ number. result ≡ number) }
+{
+    error.raw_os_error().unwrap_or(0)
+}
+
 // One read into buf, from an index on.
-fn read_from(fd: i32, buf: &mut [u8], from: usize) -> Step
+fn read_from<R: Read>(reader: &mut R, buf: &mut [u8], from: usize) -> Step
     requires { from ≤ length buf.old }
     ensures { Reads buf.old from result buf.new }
 {
-    let took = libc::read(fd, &mut buf[from..]);
-    judge(took, os::errno())
+    match reader.read(&mut buf[from..]) {
+        Ok(n) => judge(n as isize, 0),
+        Err(e) => judge(-1, number_of(&e)),
+    }
 }
 
 // One write of buf's bytes from an index on.
-fn write_from(fd: i32, buf: &[u8], from: usize) -> Step
+fn write_from<W: Write>(writer: &mut W, buf: &[u8], from: usize) -> Step
     requires { from ≤ length buf.now }
     ensures { Makes (length buf.now - from) result }
 {
-    let took = libc::write(fd, &buf[from..]);
-    judge(took, os::errno())
+    match writer.write(&buf[from..]) {
+        Ok(n) => judge(n as isize, 0),
+        Err(e) => judge(-1, number_of(&e)),
+    }
 }
 
 // Reads until buf is full, the input ends or a read fails.
-pub fn read_whole(fd: i32, buf: &mut [u8]) -> Stop
+pub fn read_whole<R: Read>(clock: &impl Clock, reader: &mut R, buf: &mut [u8]) -> Stop
     ensures { Stops result buf.old buf.new }
 {
     let mut done = 0;
     let mut last = Step::Again;
     let mut tries: u64 = 0;
     while done < buf.len() && tries < PATIENCE && goes_on(last) {
-        last = read_from(fd, buf, done);
+        last = read_from(reader, buf, done);
         done += moved(last);
-        tries += waited(last);
+        tries += waited(clock, last);
     }
     Stop { done, last }
 }
 
 // Writes until all of buf is written or a write fails.
-pub fn write_whole(fd: i32, buf: &[u8]) -> Stop
+pub fn write_whole<W: Write>(clock: &impl Clock, writer: &mut W, buf: &[u8]) -> Stop
     ensures { result.done ≤ length buf.now }
 {
     let mut done = 0;
     let mut last = Step::Again;
     let mut tries: u64 = 0;
     while done < buf.len() && tries < PATIENCE && goes_on(last) {
-        last = write_from(fd, buf, done);
+        last = write_from(writer, buf, done);
         done += moved(last);
-        tries += waited(last);
+        tries += waited(clock, last);
     }
     Stop { done, last }
 }
@@ -164,4 +174,53 @@ pub fn is_whole(stop: Stop, room: usize) -> bool
     }
     let last = stop.last;
     is_end(last)
+}
+
+// A reader or a writer, with the error of its last call that failed.
+#[derive(Drop)]
+pub struct Watched<T> {
+    inner: T,
+    error: Option<Error>,
+}
+
+impl<T> Watched<T> {
+    pub fn new(inner: T) -> Watched<T> {
+        Watched { inner, error: None }
+    }
+
+    // Why a call failed; where none did, some other error.
+    pub fn reason(&self) -> Error {
+        match self.error {
+            Some(error) => error,
+            None => Error::from(ErrorKind::Other),
+        }
+    }
+}
+
+impl<R: Read> Read for Watched<R> {
+    fn read(&mut self, buf: &mut [u8]) -> io::Result<usize> {
+        match self.inner.read(buf) {
+            Ok(n) => Ok(n),
+            Err(error) => {
+                self.error = Some(error);
+                Err(error)
+            }
+        }
+    }
+}
+
+impl<W: Write> Write for Watched<W> {
+    fn write(&mut self, buf: &[u8]) -> io::Result<usize> {
+        match self.inner.write(buf) {
+            Ok(n) => Ok(n),
+            Err(error) => {
+                self.error = Some(error);
+                Err(error)
+            }
+        }
+    }
+
+    fn flush(&mut self) -> io::Result<()> {
+        self.inner.flush()
+    }
 }

@@ -1,26 +1,47 @@
-// Reads from and writes to a descriptor that is none, as a closed standard input is, and prints what came of it: a call that
-// failed is no end of an input, and nothing was written. No contract says what a call of the C library answered, so that a
-// loop that makes up an end is proved; here it prints another text than `stdout`.
+// Reads from a reader whose calls fail and writes to a writer whose calls fail, as those of a closed standard input do, and
+// prints what came of it: a call that failed is no end of an input, and nothing was written. No contract says what a call of
+// the system answered, so that a loop that makes up an end is proved; here it prints another text than `stdout`.
 #![tactic(auto)]
 
-use libc::STDOUT_FILENO;
+use std::io;
+use std::io::{Error, Read, Write};
 
-const NONE: i32 = -1;
+// The error number of a call on a descriptor that is none.
+const EBADF: i32 = 9;
 
-fn print_whole(name: &[u8], whole: bool) {
-    io::write_all(STDOUT_FILENO, name);
-    if whole {
-        io::write_all(STDOUT_FILENO, b" whole\n");
-    } else {
-        io::write_all(STDOUT_FILENO, b" not whole\n");
+// A descriptor that is none.
+#[derive(Drop)]
+struct Closed;
+
+impl Read for Closed {
+    fn read(&mut self, _buf: &mut [u8]) -> io::Result<usize> {
+        Err(Error::from_raw_os_error(EBADF))
     }
 }
 
-fn main() {
+impl Write for Closed {
+    fn write(&mut self, _buf: &[u8]) -> io::Result<usize> {
+        Err(Error::from_raw_os_error(EBADF))
+    }
+
+    fn flush(&mut self) -> io::Result<()> {
+        Ok(())
+    }
+}
+
+fn print_whole(rt: &impl Print, name: &str, whole: bool) -> io::Result<()> {
+    if whole {
+        println!(rt; "{name} whole")
+    } else {
+        println!(rt; "{name} not whole")
+    }
+}
+
+fn main(rt: HostRuntime) -> io::Result<()> {
     let mut space = [0u8; 16];
-    let read = stream::read_whole(NONE, &mut space);
+    let read = stream::read_whole(&rt, &mut Closed, &mut space);
     let whole = stream::is_whole(read, 16);
-    print_whole(b"read", whole);
-    let written = stream::write_whole(NONE, b"text");
-    print_whole(b"written", written.done == 4);
+    print_whole(&rt, "read", whole)?;
+    let written = stream::write_whole(&rt, &mut Closed, b"text");
+    print_whole(&rt, "written", written.done == 4)
 }
