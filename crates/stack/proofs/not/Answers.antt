@@ -16,8 +16,7 @@ use Rattle.stack.specs.Stack.{Does, stack_of}
 use Rattle.stack.specs.Instr as Instr
 use Rattle.stack.specs.Instr.{bit}
 use Rattle.stack.proofs.Cells.{one}
-use Rattle.stack.proofs.not.Statement.{statement}
-use Rattle.stack.proofs.not.Tie as tie
+use Rattle.stack.proofs.not.Goals as goal
 
 -- the top becomes v
 nots : {cells cells' : List ℤ} {d d' : ℕ} (v : ℤ) → 0 < d → v ≡ bit (is_zero (get_or cells (d - 1) (pos 0)))
@@ -34,57 +33,19 @@ unfolding is_zero
 not_zero (pos n) h = rw (ne_eqb n 0 h) refl
 not_zero (negsuc n) h = refl
 
-returns : tie.Need-returns
+pub returns-then-depth-eq0 : goal.returns-then-depth-eq0
 unfolding stack_of Instr.not
-returns c = search rules
+returns-then-depth-eq0 c = search rules
 
-sub-a : tie.Need-overflow-sub-a
-sub-a c = search rules
-
-mul-a : tie.Need-overflow-mul-a
-mul-a c = search rules
-
-slice-copy-out-a : tie.Need-slice-copy-out-a
-slice-copy-out-a c = search rules
-
-put-requires : tie.Need-put-requires
-put-requires c κs = search rules
-
-same_length : tie.Need-same-length
-same_length c = search rules
-
-returns-2 : tie.Need-returns-2
-returns-2 c =
-    let s = c.before.before.before.before.before.before in
+pub returns-then-a-eq0 : goal.returns-then-a-eq0
+returns-then-a-eq0 c =
     nots (pos 1) (omega arith)
-    (is-zero (get_or s.args.stack.now (s.args.depth - 1) (pos 0)) (sfits_of c.before.before.before.before.a.given)
-    c.before.before.before.if2.true)
-    c.before.put.ensures
+    (is-zero (get_or c.args.stack.now (c.args.depth - 1) (pos 0)) (sfits_of c.a-1.given)
+    c.if-a-eq0.true)
+    c.put.ensures
 
-put-requires-2 : tie.Need-put-requires-2
-put-requires-2 c κs = search rules
-
-same-length-2 : tie.Need-same-length-2
-same-length-2 c = search rules
-
-returns-3 : tie.Need-returns-3
-returns-3 c =
-    let s = c.before.before.before.before.before.before in
+pub returns : goal.returns
+returns c =
     nots (pos 0) (omega arith)
-    (not_zero (get_or s.args.stack.now (s.args.depth - 1) (pos 0)) c.before.before.before.if2.false)
-    c.before.put2.ensures
-
-pub not-spec : {M : Type 1} → statement M
-not-spec =
-    tie.close
-    (tie.spec
-    returns
-    sub-a
-    mul-a
-    slice-copy-out-a
-    put-requires
-    same_length
-    returns-2
-    put-requires-2
-    same-length-2
-    returns-3)
+    (not_zero (get_or c.args.stack.now (c.args.depth - 1) (pos 0)) c.if-a-eq0.false)
+    c.put-2.ensures
