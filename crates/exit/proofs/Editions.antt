@@ -136,6 +136,6 @@ step_both : {p : Picture} {r c a b : ℕ} {s : PointerState} → Attempt Rust p 
 step_both (step q) = step q
 
 -- what is open in edition 1 is open in edition 2, and leads to the same
-pub opens_both : {p : Picture} {map : List ℕ} {r target i : ℕ} {q u : PointerState} → Opens Rust p map r q target u i → Opens Page p map r q target u i
+pub opens_both : {p : Picture} {map : List ℕ} {r target : ℕ} {q u : PointerState} {i : ℕ} → Opens Rust p map r q target u i → Opens Page p map r q target u i
 opens_both (opens.beside t) = opens.beside (record { codel = t.codel; leaves = t.leaves; way = step_both t.way })
 opens_both (opens.across t) = opens.across (record { codel = t.codel; leaves = t.leaves; way = glide_both t.way })

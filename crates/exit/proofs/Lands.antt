@@ -118,11 +118,11 @@ lands_with {p} {past} {r} {c} s q (turned {k = k} e m) l =
     let e' : look_of p r c s.dp ≡ Shut = rw q e in
     let m' : LandsIn p r c ((s.dp + 1) % 4) k = rw q m in
     let here = turned e' m' in
-    let (t, a, b, u, f, n) = lands_with (turned_once s) (rw q) m (more {a = station r c s} {j = suc k} (omega arith) here (later_less l)) in
+    let (t, a, b, u, f, n) = lands_with {past = station r c s ∷ past} (turned_once s) (rw q) m (more {a = station r c s} {j = suc k} (omega arith) here (later_less l)) in
     (t, a, b, u, turn (later_new (station r c s) here l) e' f, omega arith)
 lands_with {p} {past} {r} {c} s q (moved {a = a'} {b = b'} {k = k} e m) l =
     let e' : look_of p r c s.dp ≡ White a' b' = rw q e in
     let m' : LandsIn p a' b' s.dp k = rw q m in
     let here = moved e' m' in
-    let (t, a, b, u, f, n) = lands_with s q m (more {a = station r c s} {j = suc k} (omega arith) here (later_less l)) in
+    let (t, a, b, u, f, n) = lands_with {past = station r c s ∷ past} s q m (more {a = station r c s} {j = suc k} (omega arith) here (later_less l)) in
     (t, a, b, u, move (later_new (station r c s) here l) e' f, omega arith)

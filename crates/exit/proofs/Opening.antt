@@ -54,7 +54,7 @@ module _ {p : Picture} {map : List ℕ} {r : ℕ} {q : PointerState} (h : 0 < co
       let ed : d ≡ d' = cc in
       (ap₂ (region_at p map) ec ed, cc, refl)
 
-  pub open_unstuck : {target i : ℕ} {u : PointerState} {e : Edition} → Opens e p map r q target u i → Stuck p map r q e → ⊥
+  pub open_unstuck : {target : ℕ} {u : PointerState} {e : Edition} {i : ℕ} → Opens e p map r q target u i → Stuck p map r q e → ⊥
   open_unstuck (beside x) (lost y) = let w = same_way x y in clash (cc)
   open_unstuck (across x) (lost y) = let w = same_way x y in clash (cc)
 
@@ -91,7 +91,7 @@ pub record Reached (p : Picture) (map : List ℕ) (target : ℕ) (u : PointerSta
   pub own : region_at p map row col ≡ target
   pub lands : Landing p row col u
 
-pub reached : {e : Edition} {p : Picture} {map : List ℕ} {r target i : ℕ} {q u : PointerState} → Sound p → length map ≡ codels p → Valid q → Opens e p map r q target u i
+pub reached : {e : Edition} {p : Picture} {map : List ℕ} {r target : ℕ} {q u : PointerState} {i : ℕ} → Sound p → length map ≡ codels p → Valid q → Opens e p map r q target u i
     → Reached p map target u
 reached S l v (beside {a = a} {b = b} t) =
     record { row = a; col = b; own = refl; lands = stepped (inside_of S t.codel (omega (arith, t.leaves.codel))) v t.way }
@@ -99,6 +99,6 @@ reached S l v (across {c = c} {d = d} t) =
     record { row = c; col = d; own = refl; lands = slid (inside_of S t.codel (omega (arith, t.leaves.codel))) v t.way }
 
 -- its instruction is one of rule 1.5's
-pub opens_known : {e : Edition} {p : Picture} {map : List ℕ} {r target i : ℕ} {q u : PointerState} → Opens e p map r q target u i → i ≤ 17
+pub opens_known : {e : Edition} {p : Picture} {map : List ℕ} {r target : ℕ} {q u : PointerState} {i : ℕ} → Opens e p map r q target u i → i ≤ 17
 opens_known {p = p} (beside {a = a} {b = b} t) = decode_small (codel_colour p t.codel) (colour_at p a b)
 opens_known (across t) = lit≤ tt

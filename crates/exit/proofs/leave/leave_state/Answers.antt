@@ -1,0 +1,41 @@
+use mathlib.Core.Path.{◌≡◌, subst}
+use mathlib.Core.List.{List}
+use Prim.Native.Nat.{ℕ, ◌+◌, ◌<◌}
+use native.Mathlib.Omega.{arith}
+use lib.ListN.{length}
+use Rattle.flow.specs.declared.PointerState.{PointerState}
+use Rattle.exit.specs.Keeping.{Kept, kept}
+use Rattle.exit.proofs.KeepingLaws.{kept_none, kept_more, cells_more}
+use Rattle.exit.proofs.leave.leave_state.Invariants.{Passing}
+use Rattle.exit.proofs.leave.leave_state.Goals as goal
+
+weighed : {map best₀ best best' : List ℕ} {rows cols : ℕ} {s : PointerState} {i : ℕ} → Passing map best₀ best rows cols s i
+    → i < length map → best' ≡ kept map best rows cols s i → Passing map best₀ best' rows cols s (i + 1)
+weighed P h e =
+    record {
+      cells = rw e (cells_more _ _ _ _ _ _ P.cells h P.valid);
+      so_far = rw e (kept_more _ _ _ _ _ _ P.cells h P.valid _ P.so_far);
+      valid = P.valid;
+      within = omega arith;
+    }
+
+pub loop-i-init : goal.loop-i-init
+loop-i-init c = record { cells = c.requires.0; so_far = kept_none _ _ _ _ _; valid = c.requires.1; within = omega arith }
+
+pub keep-requires : goal.keep-requires
+keep-requires c = (c.loop-i.invariant.cells, c.loop-i-test.true, c.loop-i.invariant.valid)
+
+pub loop-i-preserved : goal.loop-i-preserved
+loop-i-preserved c =
+    weighed c.loop-i.invariant c.loop-i-test.true
+    c.keep.ensures
+
+pub shape_of-best : goal.shape_of-best
+shape_of-best c = c.loop-i.invariant.so_far.same_length
+
+pub returns : goal.returns
+returns c =
+    let a = c.args in
+    let l = c.loop-i in
+    let e : l.i ≡ length a.map.now = omega (arith, l.invariant.within, c.loop-i-test.false) in
+    (l.invariant.cells, subst (Kept a.map.now a.best.now l.best a.rows a.cols a.s) e l.invariant.so_far)
