@@ -9,9 +9,6 @@ use Rattle.job.specs.Reading.{Stands}
 use Rattle.job.proofs.Jobs.{starts, picture_few, settings_few, input_few, after_first, after_second, first_end, second_end, third_end, mode_at, reads}
 use Rattle.job.proofs.read_job.Goals as goal
 
-pub returns-then-job-gt8192 : goal.returns-then-job-gt8192
-returns-then-job-gt8192 c = refused (λ s j. omega (arith, j.few, c.if-job-gt8192.true)) refl
-
 pub returns-in_default : goal.returns-in_default
 returns-in_default c =
     refused (λ s j. (rw c.in_default.is at c.record_at.ensures) _ _ (picture_few j) (starts j)) refl
@@ -71,7 +68,7 @@ parts_of-requires c =
 
 pub returns : goal.returns
 returns c =
-    let few-passed : length c.args.job.now ≤ 8192 = c.if-job-gt8192.false in
+    let few-passed : length c.args.job.now ≤ 8192 = omega arith in
     let first-passed : 12 ≤ c.in-End.first = c.if-first-lt12.false in
     let second-passed : c.in-End-record_at.second ≡ c.in-End.first + 15 = c.if-second-first.false in
     let first-stands : Stands c.args.job.now 0 1 c.in-End.first = rw c.in-End.is at c.record_at.ensures in
