@@ -1,0 +1,23 @@
+-- `machine::flip_chooser` meets its contract. Assumes nothing.
+use native.Mathlib.Omega.{arith}
+use Rattle.word.proofs.Signed.{back}
+use Rattle.flow.proofs.Order.{valid_switched}
+use Rattle.flow.specs.Pointer.{switched}
+use Rattle.machine.proofs.Executing.{unturned, turned}
+use Rattle.machine.proofs.flip_chooser.Goals as goal
+
+pub returns-then-depth-eq0 : goal.returns-then-depth-eq0
+returns-then-depth-eq0 c =
+    λ kinds values h.
+    unturned c.args.stack.now kinds values c.args.at (record { lies = c.requires.lies; holds = h; valid = c.requires.valid }) switched
+    c.if-depth-eq0.true
+
+pub returns : goal.returns
+returns c =
+    λ kinds values h.
+    let q = c.pop-d in
+    let some = c.if-depth-eq0.false in
+    rw (c.at_pointers.ensures, c.at_depth.ensures)
+    (turned c.args.stack.now kinds values c.args.at (record { lies = c.requires.lies; holds = h; valid = c.requires.valid }) switched valid_switched
+    q.new.stack q.result c.switch.result q.ensures q.auto.stack (omega (arith, some))
+    (rw (back _ c.n-1.given) at c.switch.ensures))
