@@ -19,10 +19,12 @@ use Rattle.colour.specs.Instruction.{none}
 use Rattle.colour.specs.Palette.{black}
 use Rattle.cfg.specs.Nodes as nodes
 use Rattle.cfg.specs.Nodes.{Adds, astray, over, Found, entry, next, Node}
-use Rattle.cfg.specs.Table.{Exit, no_node, shut, leads, stuck}
+use Rattle.cfg.specs.Table.{Exit, no_node, leads, stuck}
+use Rattle.cfg.specs.Table as table
 use Rattle.exit.specs.declared.attempt.Way.{Way}
+use Rattle.exit.specs.declared.attempt.Way.TheVariants.{Step, Astray, Glide}
 use Rattle.exit.specs.declared.slide.Sight.TheVariants.{White}
-use Rattle.exit.specs.Attempt.{Attempt, step, glide, lost}
+use Rattle.exit.specs.Attempt.{Attempt, shut, step, glide, lost}
 use Rattle.exit.specs.Opens.{region_at, Opens, beside, across, Stuck}
 use Rattle.exit.proofs.SlideLaws.{Sighted, at_white, look_sighted, white_inside, coloured_inside, coloured_colour}
 use Rattle.exit.proofs.SlideEnds.{landing}
@@ -55,14 +57,25 @@ bright_at {p} {map} a b i d = record {
   not_black = rw (row_of p a b i, col_of p a b i) d;
 }
 
+step_bright : {p : Picture} {map : List ℕ} {a b q : ℕ} → Inside p a b → (colour_at p a b ≡ black → ⊥) → Adds p map (Step a b) q → Bright p map q
+step_bright {a = a} {b = b} i d nodes.beside = bright_at a b i d
+
+astray_bright : {p : Picture} {map : List ℕ} {a b q : ℕ} → Inside p a b → (colour_at p a b ≡ black → ⊥) → Adds p map (Astray a b) q → Bright p map q
+astray_bright {a = a} {b = b} i d astray = bright_at a b i d
+
+glide_bright : {p : Picture} {map : List ℕ} {a b c d q : ℕ} {t : PointerState} → Inside p a b → (colour_at p a b ≡ black → ⊥) → Inside p c d → (colour_at p c d ≡ black → ⊥)
+    → Adds p map (Glide a b c d t) q → Bright p map q
+glide_bright {a = a} {b = b} i k j l over = bright_at a b i k
+glide_bright {c = c} {d = d} i k j l nodes.landing = bright_at c d j l
+
 -- what a way adds is seen white or coloured, since black is shut (rule 4.3)
 bright : {e : Edition} {p : Picture} {map : List ℕ} {r c q : ℕ} {s : PointerState} {w : Way} → Inside p r c → Valid s → Attempt e p r c s w → Adds p map w q → Bright p map q
-bright {p = p} {r = r} {c = c} {s = s} i v (step {r' = a} {c' = b} e) nodes.beside = bright_at a b (coloured_inside p r c s.dp i e) (coloured_colour p r c s.dp e).0
-bright {p = p} {r = r} {c = c} {s = s} i v (lost {r' = a} {c' = b} e d) astray = bright_at a b (white_inside p r c s.dp i e) (seen_white (look_sighted p r c s.dp e))
-bright {p = p} {r = r} {c = c} {s = s} i v (glide {r' = a} {c' = b} e d) over = bright_at a b (white_inside p r c s.dp i e) (seen_white (look_sighted p r c s.dp e))
-bright {p = p} {r = r} {c = c} {s = s} i v (glide {a = a} {b = b} e d) nodes.landing =
+bright i v (shut e) x = elim x [ ]
+bright {p = p} {r = r} {c = c} {s = s} i v (step e) x = step_bright (coloured_inside p r c s.dp i e) (coloured_colour p r c s.dp e).0 x
+bright {p = p} {r = r} {c = c} {s = s} i v (lost e d) x = astray_bright (white_inside p r c s.dp i e) (seen_white (look_sighted p r c s.dp e)) x
+bright {p = p} {r = r} {c = c} {s = s} i v (glide e d) x =
     let l = landing d (white_inside p r c s.dp i e) v in
-    bright_at a b l.place l.not_black
+    glide_bright (white_inside p r c s.dp i e) (seen_white (look_sighted p r c s.dp e)) l.place l.not_black x
 
 module _ {e : Edition} {p : Picture} {map : List ℕ} {n : ℕ} (S : Sound p) (M : IsMap (grid_of p) map n) (long : length map ≡ codels p) where
   -- every found region but region 0 was added by a way
@@ -76,7 +89,7 @@ module _ {e : Edition} {p : Picture} {map : List ℕ} {n : ℕ} (S : Sound p) (M
   black_node N = black_found N.found
 
   -- black is in neither cycle of colours; a slide that lands gives no instruction of itself
-  pub black_silent : {r target i : ℕ} {q u : PointerState} → Opens e p map r q target u i → (j : ℕ) → j < codels p → get_or map j 0 ≡ r → codel_colour p j ≡ black → i ≡ none
+  pub black_silent : {r target : ℕ} {q u : PointerState} {i : ℕ} → Opens e p map r q target u i → (j : ℕ) → j < codels p → get_or map j 0 ≡ r → codel_colour p j ≡ black → i ≡ none
   unfolding decode_of
   black_silent (beside t) j h own dark =
       let inside : t.codel < codels p = omega (arith, t.leaves.codel, long) in
@@ -85,7 +98,7 @@ module _ {e : Edition} {p : Picture} {map : List ℕ} {n : ℕ} (S : Sound p) (M
 
   pub black_exit : {r x : ℕ} {q : PointerState} → Valid q → Exit e p map r q x → (j : ℕ) → j < codels p → get_or map j 0 ≡ r → codel_colour p j ≡ black → (instruction_of x ≡ none) ⊎ Stuck p map r q e
   black_exit v (no_node a) j h own dark = inl refl
-  black_exit v (shut a s) j h own dark = inl refl
+  black_exit v (table.shut a s) j h own dark = inl refl
   black_exit v (stuck a s) j h own dark = inr s
   black_exit v (leads {target = target} {i = i} {u = u} a o) j h own dark =
       let l = opens_leads S M long a.found v o in

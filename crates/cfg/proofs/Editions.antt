@@ -116,7 +116,7 @@ module _ {p : Picture} {map : List ℕ} (S : Sound p) (l : length map ≡ codels
       by_source (inr x) = inr (goes_on x v t a)
 
   -- an attempt that is open in edition 2 alone is a long slide
-  opens_long : {r target i : ℕ} {q u : PointerState} → Valid q → ((u' : PointerState) (t j : ℕ) → Opens Rust p map r q t u' j → ⊥)
+  opens_long : {r target : ℕ} {q u : PointerState} {i : ℕ} → Valid q → ((u' : PointerState) (t j : ℕ) → Opens Rust p map r q t u' j → ⊥)
       → Opens Page p map r q target u i → Beside p map r q 0 (exit_number target (state_number u) i)
   opens_long {r = r} {q = q} v never (beside {a = a} {b = b} t) =
       let (w, u) = tried_in Rust v t in

@@ -27,7 +27,7 @@ use Rattle.cfg.specs.Nodes as nodes
 use Rattle.cfg.specs.Table.{Exit, shut, leads, stuck}
 use Rattle.cfg.specs.Search.{lost_exit, way_number, Number}
 
-pub opens_found : {e : Edition} {p : Picture} {map : List ℕ} {r target i : ℕ} {q u : PointerState} → Found e p map r → Valid q → Opens e p map r q target u i → Found e p map target
+pub opens_found : {e : Edition} {p : Picture} {map : List ℕ} {r target : ℕ} {q u : PointerState} {i : ℕ} → Found e p map r → Valid q → Opens e p map r q target u i → Found e p map target
 opens_found f v (beside t) = next f v t nodes.beside
 opens_found f v (across t) = next f v t nodes.landing
 

@@ -1,0 +1,13 @@
+-- `cfg::nodes::clear_exits` meets its contract: the loop's invariant: the exits of the states below s are 0 (`Zeros`).
+-- Assumes nothing.
+use mathlib.Core.Path.{◌≡◌}
+use Prim.Native.Nat.{◌-◌, ◌≤◌}
+use lib.ListN.{length}
+use Rattle.cfg.specs.Search.{Zeros}
+use Rattle.cfg.proofs.nodes.clear_exits.Given as goal
+
+abbrev pub invariant-loop-s : goal.invariant-loop-s
+invariant-loop-s l = (l.s ≤ 8) × Zeros l.r l.s l.initial.exits l.exits × (length l.exits ≡ length l.initial.exits)
+
+abbrev pub decreases-loop-s : goal.decreases-loop-s
+decreases-loop-s l = 8 - l.s

@@ -1,0 +1,57 @@
+use mathlib.Core.Path.{◌≡◌}
+use native.Mathlib.Omega.{arith}
+use Rattle.cfg.proofs.Trying.{several_none, several_more, next_needs}
+use Rattle.cfg.proofs.search.try_states.Goals as goal
+
+pub loop-state-init : goal.loop-state-init
+loop-state-init c =
+    let the-args = c.args in
+    let the-pre = c.requires in
+    (omega arith, several_none the-args.r the-args.exits.now the-pre.queue)
+
+pub try_state-end-requires : goal.try_state-end-requires
+try_state-end-requires c =
+    let the-pre = c.requires in
+    let the-loop = c.loop-state in
+    let the-loop-test = c.loop-state-test in
+    let needs = next_needs the-pre.taken the-loop.invariant.1 the-loop-test.true the-pre.frames in
+    record {
+      grounds = needs.0;
+      found = needs.1.0;
+      queue = needs.1.1.0;
+      leaves_by = needs.1.1.1.0;
+      work_len = needs.1.1.1.1.0;
+      r_in_bounds = needs.1.1.1.1.1.0;
+      r_bound = needs.1.1.1.1.1.1.0;
+      state_bound = needs.1.1.1.1.1.1.1.0;
+      frames = needs.1.1.1.1.1.1.1.1;
+      decodes_pairs = the-pre.decodes_pairs;
+    }
+
+pub loop-state-smaller : goal.loop-state-smaller
+loop-state-smaller c =
+    let the-loop-test = c.loop-state-test in
+    omega (arith, the-loop-test.true)
+
+pub loop-state-preserved : goal.loop-state-preserved
+loop-state-preserved c =
+    let the-loop-test = c.loop-state-test in
+    let the-loop = c.loop-state in
+    let the-try-state = c.try_state-end in
+    let the-pre = c.requires in
+    (omega (arith, the-loop-test.true), several_more the-loop.invariant.1 the-try-state.ensures the-loop-test.true (omega (arith, the-loop.invariant.1.exits_length, the-pre.taken.exits_long, the-loop-test.true)))
+
+pub shape_of-rows : goal.shape_of-rows
+shape_of-rows c = c.loop-state.invariant.1.onward.rows_length
+
+pub shape_of-exits : goal.shape_of-exits
+shape_of-exits c = c.loop-state.invariant.1.exits_length
+
+pub shape_of-work : goal.shape_of-work
+shape_of-work c = c.loop-state.invariant.1.onward.work_length
+
+pub returns : goal.returns
+returns c =
+    let l = c.loop-state in
+    let all : l.state ≡ 8 = omega (arith, l.invariant.0, c.loop-state-test.false) in
+    rw all at l.invariant.1
