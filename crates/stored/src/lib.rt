@@ -3,7 +3,8 @@
 
 ghost use Rattle.std.specs.Prelude.{◌≡◌, ◌+◌, ◌*◌, ◌<◌, ◌≤◌, length, get_or};
 
-use libc::STDOUT_FILENO;
+use std::io;
+use std::io::Write;
 
 pub fn wide(b: u8) -> usize
     ensures same { result ≡ b }
@@ -55,39 +56,35 @@ pub fn picture_end(records: &[u8], at: usize, lead: usize) -> usize
     record_end(records, start + 3, height * width)
 }
 
-pub fn print_number(n: u64) {
-    io::write_all(STDOUT_FILENO, b" ");
-    io::print_decimal(STDOUT_FILENO, n);
+pub fn print_number<W: Write>(out: &mut W, n: u64) -> io::Result<()> {
+    write!(out, " {n}")
 }
 
-pub fn print_cell(cell: u32) {
-    print_number(cell as u64);
+pub fn print_cell<W: Write>(out: &mut W, cell: u32) -> io::Result<()> {
+    print_number(out, cell as u64)
 }
 
-pub fn print_byte(b: u8) {
-    print_number(b as u64);
+pub fn print_byte<W: Write>(out: &mut W, b: u8) -> io::Result<()> {
+    print_number(out, b as u64)
 }
 
-pub fn print_numbers(numbers: &[u64]) {
-    let mut i = 0;
-    while i < numbers.len() {
-        print_number(numbers[i]);
-        i += 1;
+pub fn print_numbers<W: Write>(out: &mut W, numbers: &[u64]) -> io::Result<()> {
+    for n in numbers {
+        print_number(out, *n)?;
     }
+    Ok(())
 }
 
-pub fn print_cells(cells: &[u32]) {
-    let mut i = 0;
-    while i < cells.len() {
-        print_cell(cells[i]);
-        i += 1;
+pub fn print_cells<W: Write>(out: &mut W, cells: &[u32]) -> io::Result<()> {
+    for cell in cells {
+        print_cell(out, *cell)?;
     }
+    Ok(())
 }
 
-pub fn print_bytes(bytes: &[u8]) {
-    let mut i = 0;
-    while i < bytes.len() {
-        print_byte(bytes[i]);
-        i += 1;
+pub fn print_bytes<W: Write>(out: &mut W, bytes: &[u8]) -> io::Result<()> {
+    for b in bytes {
+        print_byte(out, *b)?;
     }
+    Ok(())
 }
