@@ -23,7 +23,8 @@
 // Each is called once more with too short an answer, which changes nothing.
 #![tactic(auto)]
 
-use libc::STDOUT_FILENO;
+use std::io;
+use std::io::{BufWriter, Write};
 
 const COLOURS: [u8; 15] = [6, 18, 16, 18, 9, 18, 18, 18, 18, 18, 6, 18, 19, 18, 9];
 
@@ -71,71 +72,87 @@ fn exits() -> [u32; 32] {
     exits
 }
 
-fn print_bytes(name: &[u8], bytes: &[u8]) {
-    io::write_all(STDOUT_FILENO, name);
-    stored::print_bytes(bytes);
-    io::write_all(STDOUT_FILENO, b"\n");
+fn print_bytes<W: Write>(out: &mut W, name: &[u8], bytes: &[u8]) -> io::Result<()> {
+    out.write_all(name)?;
+    stored::print_bytes(out, bytes)?;
+    out.write_all(b"\n")
 }
 
-fn print_cells(name: &[u8], cells: &[u32]) {
-    io::write_all(STDOUT_FILENO, name);
-    stored::print_cells(cells);
-    io::write_all(STDOUT_FILENO, b"\n");
+fn print_cells<W: Write>(out: &mut W, name: &[u8], cells: &[u32]) -> io::Result<()> {
+    out.write_all(name)?;
+    stored::print_cells(out, cells)?;
+    out.write_all(b"\n")
 }
 
-fn print_numbers(name: &[u8], numbers: &[u64]) {
-    io::write_all(STDOUT_FILENO, name);
-    stored::print_numbers(numbers);
-    io::write_all(STDOUT_FILENO, b"\n");
+fn print_numbers<W: Write>(out: &mut W, name: &[u8], numbers: &[u64]) -> io::Result<()> {
+    out.write_all(name)?;
+    stored::print_numbers(out, numbers)?;
+    out.write_all(b"\n")
 }
 
 // None of the values here is negative, so that each is its own absolute value.
-fn print_values(name: &[u8], values: &[i64]) {
-    io::write_all(STDOUT_FILENO, name);
+fn print_values<W: Write>(out: &mut W, name: &[u8], values: &[i64]) -> io::Result<()> {
+    out.write_all(name)?;
     let mut i = 0;
     while i < values.len() {
-        stored::print_number(word::abs(values[i]));
+        stored::print_number(out, word::abs(values[i]))?;
         i += 1;
     }
-    io::write_all(STDOUT_FILENO, b"\n");
+    out.write_all(b"\n")
 }
 
-fn print_returned(name: &[u8], number: u32, answer: &[u64]) {
-    io::write_all(STDOUT_FILENO, name);
-    stored::print_cell(number);
-    io::write_all(STDOUT_FILENO, b"\n");
-    print_numbers(b"  answer", answer);
+fn print_returned<W: Write>(
+    out: &mut W,
+    name: &[u8],
+    number: u32,
+    answer: &[u64],
+) -> io::Result<()> {
+    out.write_all(name)?;
+    stored::print_cell(out, number)?;
+    out.write_all(b"\n")?;
+    print_numbers(out, b"  answer", answer)
 }
 
-fn print_table(map: &[u32], rows: &[u32], exits: &[u32], work: &[u32]) {
-    print_cells(b"  map", map);
-    print_cells(b"  rows", rows);
-    print_cells(b"  exits", exits);
-    print_cells(b"  work", work);
+fn print_table<W: Write>(
+    out: &mut W,
+    map: &[u32],
+    rows: &[u32],
+    exits: &[u32],
+    work: &[u32],
+) -> io::Result<()> {
+    print_cells(out, b"  map", map)?;
+    print_cells(out, b"  rows", rows)?;
+    print_cells(out, b"  exits", exits)?;
+    print_cells(out, b"  work", work)
 }
 
-fn print_room(stack: &[i64], kinds: &[u8], values: &[i64]) {
-    print_values(b"  stack", stack);
-    print_bytes(b"  kinds", kinds);
-    print_values(b"  values", values);
+fn print_room<W: Write>(
+    out: &mut W,
+    stack: &[i64],
+    kinds: &[u8],
+    values: &[i64],
+) -> io::Result<()> {
+    print_values(out, b"  stack", stack)?;
+    print_bytes(out, b"  kinds", kinds)?;
+    print_values(out, b"  values", values)
 }
 
-fn classify(setting: u8, answer: &mut [u64]) {
+fn classify<W: Write>(out: &mut W, setting: u8, answer: &mut [u64]) -> io::Result<()> {
     let mut colours = [80u8; 16];
     let pixels = pixels();
     let number = piet_c::piet_classify(&pixels, 3, 5, setting, &mut colours, answer);
-    print_returned(b"piet_classify", number, answer);
-    print_bytes(b"  colours", &colours);
+    print_returned(out, b"piet_classify", number, answer)?;
+    print_bytes(out, b"  colours", &colours)
 }
 
-fn label(answer: &mut [u64]) {
+fn label<W: Write>(out: &mut W, answer: &mut [u64]) -> io::Result<()> {
     let mut out = [81u8; 24];
     let number = piet_c::piet_label(6, 3, 12, &mut out, answer);
-    print_returned(b"piet_label", number, answer);
-    print_bytes(b"  out", &out);
+    print_returned(out, b"piet_label", number, answer)?;
+    print_bytes(out, b"  out", &out)
 }
 
-fn build(edition: u32, answer: &mut [u64]) {
+fn build<W: Write>(out: &mut W, edition: u32, answer: &mut [u64]) -> io::Result<()> {
     let mut map = [82u32; 7];
     let mut rows = [83u32; 31];
     let mut exits = [84u32; 49];
@@ -143,17 +160,23 @@ fn build(edition: u32, answer: &mut [u64]) {
     let number = piet_c::piet_build(
         &COLOURS, 3, 5, 2, edition, &mut map, &mut rows, &mut exits, &mut work, answer,
     );
-    print_returned(b"piet_build", number, answer);
-    print_table(&map, &rows, &exits, &work);
+    print_returned(out, b"piet_build", number, answer)?;
+    print_table(out, &map, &rows, &exits, &work)
 }
 
-fn forever(answer: &mut [u64]) {
+fn forever<W: Write>(out: &mut W, answer: &mut [u64]) -> io::Result<()> {
     let exits = exits();
     let number = piet_c::piet_determine_runs_forever(4, &ROWS, &exits, answer);
-    print_returned(b"piet_determine_runs_forever", number, answer);
+    print_returned(out, b"piet_determine_runs_forever", number, answer)
 }
 
-fn run(edition: u32, limit: u64, input: &[u8], answer: &mut [u64]) {
+fn run<W: Write>(
+    out: &mut W,
+    edition: u32,
+    limit: u64,
+    input: &[u8],
+    answer: &mut [u64],
+) -> io::Result<()> {
     let exits = exits();
     let mut stack = [86i64; 5];
     let mut kinds = [87u8; 3];
@@ -171,11 +194,11 @@ fn run(edition: u32, limit: u64, input: &[u8], answer: &mut [u64]) {
         &mut values,
         answer,
     );
-    print_returned(b"piet_run", number, answer);
-    print_room(&stack, &kinds, &values);
+    print_returned(out, b"piet_run", number, answer)?;
+    print_room(out, &stack, &kinds, &values)
 }
 
-fn visits(edition: u32, limit: u64, answer: &mut [u64]) {
+fn visits<W: Write>(out: &mut W, edition: u32, limit: u64, answer: &mut [u64]) -> io::Result<()> {
     let exits = exits();
     let mut stack = [86i64; 5];
     let mut kinds = [87u8; 3];
@@ -197,13 +220,19 @@ fn visits(edition: u32, limit: u64, answer: &mut [u64]) {
         &mut unvisited,
         answer,
     );
-    print_returned(b"piet_visits", number, answer);
-    print_room(&stack, &kinds, &values);
-    print_numbers(b"  visits", &visits);
-    print_cells(b"  unvisited", &unvisited);
+    print_returned(out, b"piet_visits", number, answer)?;
+    print_room(out, &stack, &kinds, &values)?;
+    print_numbers(out, b"  visits", &visits)?;
+    print_cells(out, b"  unvisited", &unvisited)
 }
 
-fn history(n: usize, edition: u32, taken: &mut [u32], answer: &mut [u64]) {
+fn history<W: Write>(
+    out: &mut W,
+    n: usize,
+    edition: u32,
+    taken: &mut [u32],
+    answer: &mut [u64],
+) -> io::Result<()> {
     let exits = exits();
     let mut stack = [86i64; 5];
     let mut kinds = [87u8; 3];
@@ -222,12 +251,18 @@ fn history(n: usize, edition: u32, taken: &mut [u32], answer: &mut [u64]) {
         taken,
         answer,
     );
-    print_returned(b"piet_history", number, answer);
-    print_room(&stack, &kinds, &values);
-    print_cells(b"  taken", taken);
+    print_returned(out, b"piet_history", number, answer)?;
+    print_room(out, &stack, &kinds, &values)?;
+    print_cells(out, b"  taken", taken)
 }
 
-fn run_picture(edition: u32, limit: u64, input: &[u8], answer: &mut [u64]) {
+fn run_picture<W: Write>(
+    out: &mut W,
+    edition: u32,
+    limit: u64,
+    input: &[u8],
+    answer: &mut [u64],
+) -> io::Result<()> {
     let pixels = pixels();
     let mut colours = [80u8; 16];
     let mut map = [82u32; 7];
@@ -257,94 +292,108 @@ fn run_picture(edition: u32, limit: u64, input: &[u8], answer: &mut [u64]) {
         &mut values,
         answer,
     );
-    print_returned(b"piet_run_picture", number, answer);
-    print_bytes(b"  colours", &colours);
-    print_table(&map, &rows, &exits, &work);
-    print_room(&stack, &kinds, &values);
+    print_returned(out, b"piet_run_picture", number, answer)?;
+    print_bytes(out, b"  colours", &colours)?;
+    print_table(out, &map, &rows, &exits, &work)?;
+    print_room(out, &stack, &kinds, &values)
 }
 
-fn read_p6(file: &[u8], answer: &mut [u64]) {
+fn read_p6<W: Write>(out: &mut W, file: &[u8], answer: &mut [u64]) -> io::Result<()> {
     let mut pixels = [89u8; 8];
     let number = piet_c::p6::piet_read_p6(file, &mut pixels, answer);
-    print_returned(b"piet_read_p6", number, answer);
-    print_bytes(b"  pixels", &pixels);
+    print_returned(out, b"piet_read_p6", number, answer)?;
+    print_bytes(out, b"  pixels", &pixels)
 }
 
-fn write_p6(height: usize, answer: &mut [u64]) {
+fn write_p6<W: Write>(out: &mut W, height: usize, answer: &mut [u64]) -> io::Result<()> {
     let pixels = pixels();
     let mut file = [79u8; 58];
     let number = piet_c::p6::piet_write_p6(&pixels, height, 5, &mut file, answer);
-    print_returned(b"piet_write_p6", number, answer);
-    print_bytes(b"  file", &file);
+    print_returned(out, b"piet_write_p6", number, answer)?;
+    print_bytes(out, b"  file", &file)
 }
 
 // The answers are one cell longer than named, or one shorter.
-fn tables() {
+fn tables<W: Write>(out: &mut W) -> io::Result<()> {
     let mut none = [0u64; 0];
     let mut one = [90u64; 1];
     let mut two = [91u64; 2];
     let mut three = [92u64; 3];
-    classify(1, &mut three);
-    classify(0, &mut three);
-    classify(3, &mut three);
-    classify(3, &mut one);
-    label(&mut two);
-    label(&mut none);
-    build(1, &mut three);
-    build(3, &mut three);
-    build(1, &mut one);
-    forever(&mut two);
-    forever(&mut none);
+    classify(out, 1, &mut three)?;
+    classify(out, 0, &mut three)?;
+    classify(out, 3, &mut three)?;
+    classify(out, 3, &mut one)?;
+    label(out, &mut two)?;
+    label(out, &mut none)?;
+    build(out, 1, &mut three)?;
+    build(out, 3, &mut three)?;
+    build(out, 1, &mut one)?;
+    forever(out, &mut two)?;
+    forever(out, &mut none)
 }
 
 // The calls that are refused come first, so that the cells after each are those before all.
-fn histories() {
+fn histories<W: Write>(out: &mut W) -> io::Result<()> {
     let mut eleven = [93u64; 11];
     let mut thirteen = [95u64; 13];
     let mut shorter = [75u32; 3];
     let mut longer = [76u32; 6];
-    history(5, 1, &mut longer, &mut thirteen);
-    history(5, 3, &mut longer, &mut thirteen);
-    history(5, 3, &mut longer, &mut eleven);
-    history(4, 1, &mut longer, &mut thirteen);
-    history(4, 1, &mut shorter, &mut thirteen);
+    history(out, 5, 1, &mut longer, &mut thirteen)?;
+    history(out, 5, 3, &mut longer, &mut thirteen)?;
+    history(out, 5, 3, &mut longer, &mut eleven)?;
+    history(out, 4, 1, &mut longer, &mut thirteen)?;
+    history(out, 4, 1, &mut shorter, &mut thirteen)
 }
 
-fn runs() {
+fn runs<W: Write>(out: &mut W) -> io::Result<()> {
     let mut eleven = [93u64; 11];
     let mut twelve = [94u64; 12];
     let mut thirteen = [95u64; 13];
     let mut fourteen = [96u64; 14];
-    run(1, 4, b"7\n300\n5\n", &mut thirteen);
-    run(1, 31, b"\n\n\nx\nx\n9223372036854775808\n", &mut thirteen);
-    run(3, 4, b"7\n300\n5\n", &mut thirteen);
-    run(1, 4, b"7\n300\n5\n", &mut eleven);
-    visits(1, 1, &mut fourteen);
-    visits(3, 1, &mut fourteen);
-    visits(1, 18446744073709551615, &mut fourteen);
-    visits(1, 1, &mut twelve);
-    histories();
-    run_picture(1, 4, b"7\n300\n5\n", &mut fourteen);
-    run_picture(1, 31, b"\n\n\nx\nx\n9223372036854775808\n", &mut fourteen);
-    run_picture(3, 4, b"7\n300\n5\n", &mut fourteen);
-    run_picture(1, 4, b"7\n300\n5\n", &mut twelve);
+    run(out, 1, 4, b"7\n300\n5\n", &mut thirteen)?;
+    run(
+        out,
+        1,
+        31,
+        b"\n\n\nx\nx\n9223372036854775808\n",
+        &mut thirteen,
+    )?;
+    run(out, 3, 4, b"7\n300\n5\n", &mut thirteen)?;
+    run(out, 1, 4, b"7\n300\n5\n", &mut eleven)?;
+    visits(out, 1, 1, &mut fourteen)?;
+    visits(out, 3, 1, &mut fourteen)?;
+    visits(out, 1, 18446744073709551615, &mut fourteen)?;
+    visits(out, 1, 1, &mut twelve)?;
+    histories(out)?;
+    run_picture(out, 1, 4, b"7\n300\n5\n", &mut fourteen)?;
+    run_picture(
+        out,
+        1,
+        31,
+        b"\n\n\nx\nx\n9223372036854775808\n",
+        &mut fourteen,
+    )?;
+    run_picture(out, 3, 4, b"7\n300\n5\n", &mut fourteen)?;
+    run_picture(out, 1, 4, b"7\n300\n5\n", &mut twelve)
 }
 
-fn files() {
+fn files<W: Write>(out: &mut W) -> io::Result<()> {
     let mut none = [0u64; 0];
     let mut one = [90u64; 1];
     let mut two = [91u64; 2];
     let mut three = [92u64; 3];
-    read_p6(b"P6 2 1 255\nabcdef", &mut three);
-    read_p6(b"P6 2 1 255\nabcde", &mut three);
-    read_p6(b"P6 2 1 255\nabcdef", &mut one);
-    write_p6(3, &mut two);
-    write_p6(4, &mut two);
-    write_p6(3, &mut none);
+    read_p6(out, b"P6 2 1 255\nabcdef", &mut three)?;
+    read_p6(out, b"P6 2 1 255\nabcde", &mut three)?;
+    read_p6(out, b"P6 2 1 255\nabcdef", &mut one)?;
+    write_p6(out, 3, &mut two)?;
+    write_p6(out, 4, &mut two)?;
+    write_p6(out, 3, &mut none)
 }
 
-fn main() {
-    tables();
-    runs();
-    files();
+fn main(rt: HostRuntime) -> io::Result<()> {
+    let mut out = BufWriter::new(rt.alloc(), rt.stdout())?;
+    tables(&mut out)?;
+    runs(&mut out)?;
+    files(&mut out)?;
+    out.flush()
 }

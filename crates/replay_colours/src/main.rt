@@ -6,67 +6,71 @@
 ghost use Rattle.std.specs.Prelude.{◌≤◌};
 
 use colour::classify::Classified;
-use libc::{STDIN_FILENO, STDOUT_FILENO};
+use std::io;
+use std::io::{BufWriter, Read, Write};
 
-fn print_number(n: u8) {
-    io::print_decimal(STDOUT_FILENO, n as u64);
+fn print_number<W: Write>(out: &mut W, n: u8) -> io::Result<()> {
+    write!(out, "{n}")
 }
 
-fn print_pair(from: u8, to: u8) {
+fn print_pair<W: Write>(out: &mut W, from: u8, to: u8) -> io::Result<()> {
     if to != 0 {
-        io::write_all(STDOUT_FILENO, b" ");
+        out.write_all(b" ")?;
     }
-    print_number(colour::decode::decode(from, to));
+    print_number(out, colour::decode::decode(from, to))
 }
 
-fn print_pairs_from(from: u8) {
+fn print_pairs_from<W: Write>(out: &mut W, from: u8) -> io::Result<()> {
     let mut to: u8 = 0;
     while to < 20 {
-        print_pair(from, to);
+        print_pair(out, from, to)?;
         to += 1;
     }
-    io::write_all(STDOUT_FILENO, b"\n");
+    out.write_all(b"\n")
 }
 
-fn print_pairs() {
+fn print_pairs<W: Write>(out: &mut W) -> io::Result<()> {
     let mut from: u8 = 0;
     while from < 20 {
-        print_pairs_from(from);
+        print_pairs_from(out, from)?;
         from += 1;
     }
+    Ok(())
 }
 
-fn print_colour(pixel: &[u8], setting: u8) {
+fn print_colour<W: Write>(out: &mut W, pixel: &[u8], setting: u8) -> io::Result<()> {
     let mut colours = [0u8; 1];
     let answer = colour::classify::classify(pixel, 1, 1, setting, &mut colours);
     if let Classified::Done = answer {
-        print_number(colours[0]);
-        return;
+        return print_number(out, colours[0]);
     }
-    io::write_all(STDOUT_FILENO, b"x");
+    out.write_all(b"x")
 }
 
-fn print_pixel(pixel: &[u8]) {
-    print_colour(pixel, 1);
-    io::write_all(STDOUT_FILENO, b" ");
-    print_colour(pixel, 2);
-    io::write_all(STDOUT_FILENO, b" ");
-    print_colour(pixel, 3);
-    io::write_all(STDOUT_FILENO, b"\n");
+fn print_pixel<W: Write>(out: &mut W, pixel: &[u8]) -> io::Result<()> {
+    print_colour(out, pixel, 1)?;
+    out.write_all(b" ")?;
+    print_colour(out, pixel, 2)?;
+    out.write_all(b" ")?;
+    print_colour(out, pixel, 3)?;
+    out.write_all(b"\n")
 }
 
-fn print_pixels(pixels: &[u8]) {
+fn print_pixels<W: Write>(out: &mut W, pixels: &[u8]) -> io::Result<()> {
     let mut rest = pixels.len();
     while 3 <= rest {
         let at = pixels.len() - rest;
-        print_pixel(&pixels[at..at + 3]);
+        print_pixel(out, &pixels[at..at + 3])?;
         rest -= 3;
     }
+    Ok(())
 }
 
-fn main() {
-    print_pairs();
-    let mut space = io::buffer();
-    let n = io::read_full(STDIN_FILENO, &mut space);
-    print_pixels(&space[..n]);
+fn main(rt: HostRuntime) -> io::Result<()> {
+    let mut pixels = Vec::new(rt.alloc());
+    rt.stdin().read_to_end(&mut pixels)?;
+    let mut out = BufWriter::new(rt.alloc(), rt.stdout())?;
+    print_pairs(&mut out)?;
+    print_pixels(&mut out, &pixels)?;
+    out.flush()
 }

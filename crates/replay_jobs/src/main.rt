@@ -2,26 +2,30 @@
 // bytes; `stdout` has for each what the run program prints, and a line `--`.
 #![tactic(auto)]
 
-use libc::{STDIN_FILENO, STDOUT_FILENO};
+use std::io;
+use std::io::{BufWriter, Read, Write};
 
-fn print_job(job: &[u8]) {
-    let mut out = [0u8; 16384];
-    let k = answer::answer(job, &mut out);
-    io::write_all(STDOUT_FILENO, &out[..k]);
-    io::write_all(STDOUT_FILENO, b"--\n");
+fn print_job<W: Write>(out: &mut W, job: &[u8]) -> io::Result<()> {
+    let mut text = [0u8; 16384];
+    let k = answer::answer(job, &mut text);
+    out.write_all(&text[..k])?;
+    out.write_all(b"--\n")
 }
 
-fn print_jobs(records: &[u8]) {
+fn print_jobs<W: Write>(out: &mut W, records: &[u8]) -> io::Result<()> {
     let mut at = 0;
     while 2 <= records.len() - at {
         let end = stored::record_end(records, at + 2, stored::pair_at(records, at));
-        print_job(&records[at + 2..end]);
+        print_job(out, &records[at + 2..end])?;
         at = end;
     }
+    Ok(())
 }
 
-fn main() {
-    let mut space = [0u8; 262144];
-    let n = io::read_full(STDIN_FILENO, &mut space);
-    print_jobs(&space[..n]);
+fn main(rt: HostRuntime) -> io::Result<()> {
+    let mut records = Vec::new(rt.alloc());
+    rt.stdin().read_to_end(&mut records)?;
+    let mut out = BufWriter::new(rt.alloc(), rt.stdout())?;
+    print_jobs(&mut out, &records)?;
+    out.flush()
 }

@@ -5,74 +5,81 @@
 #![tactic(auto)]
 
 use base::edition::Edition;
-use libc::{STDIN_FILENO, STDOUT_FILENO};
+use std::io;
+use std::io::{BufWriter, Read, Write};
 use text::input::Taken;
 use text::number::Reason;
 
-fn print_int(v: i64) {
+fn print_int<W: Write>(out: &mut W, v: i64) -> io::Result<()> {
     if v < 0 {
-        io::write_all(STDOUT_FILENO, b"-");
+        out.write_all(b"-")?;
     }
-    io::print_decimal(STDOUT_FILENO, word::abs(v));
+    let size = word::abs(v);
+    write!(out, "{size}")
 }
 
-fn print_reason(why: Reason) {
+fn print_reason<W: Write>(out: &mut W, why: Reason) -> io::Result<()> {
     match why {
         Reason::Ended => {
-            io::write_all(STDOUT_FILENO, b"e");
+            out.write_all(b"e")?;
         }
         Reason::Blank => {
-            io::write_all(STDOUT_FILENO, b"w");
+            out.write_all(b"w")?;
         }
         Reason::NotNumber => {
-            io::write_all(STDOUT_FILENO, b"n");
+            out.write_all(b"n")?;
         }
         Reason::OutOfRange => {
-            io::write_all(STDOUT_FILENO, b"o");
+            out.write_all(b"o")?;
         }
     }
+    Ok(())
 }
 
 // What is taken and the bytes consumed; why a step is skipped only where that is asked for.
-fn print_taken(t: Taken, asks_why: bool) {
+fn print_taken<W: Write>(out: &mut W, t: Taken, asks_why: bool) -> io::Result<()> {
     match t {
         Taken::Push { value, next } => {
-            print_int(value);
-            stored::print_number(next as u64);
+            print_int(out, value)?;
+            stored::print_number(out, next as u64)?;
         }
         Taken::Skip { next, why } => {
             if asks_why {
-                print_reason(why);
+                print_reason(out, why)?;
             } else {
-                io::write_all(STDOUT_FILENO, b"s");
+                out.write_all(b"s")?;
             }
-            stored::print_number(next as u64);
+            stored::print_number(out, next as u64)?;
         }
         Taken::BadInput => {
-            io::write_all(STDOUT_FILENO, b"b 0");
+            out.write_all(b"b 0")?;
         }
     }
+    Ok(())
 }
 
-fn print_input(input: &[u8]) {
-    io::write_all(STDOUT_FILENO, b"c ");
-    print_taken(text::input::char_in(input, 0, Edition::Rust), false);
-    io::write_all(STDOUT_FILENO, b" i ");
-    print_taken(text::input::int_in(input, 0), true);
-    io::write_all(STDOUT_FILENO, b"\n");
+fn print_input<W: Write>(out: &mut W, input: &[u8]) -> io::Result<()> {
+    out.write_all(b"c ")?;
+    print_taken(out, text::input::char_in(input, 0, Edition::Rust), false)?;
+    out.write_all(b" i ")?;
+    print_taken(out, text::input::int_in(input, 0), true)?;
+    out.write_all(b"\n")
 }
 
-fn print_inputs(records: &[u8]) {
+fn print_inputs<W: Write>(out: &mut W, records: &[u8]) -> io::Result<()> {
     let mut at = 0;
     while at < records.len() {
         let end = stored::record_end(records, at + 1, stored::wide(records[at]));
-        print_input(&records[at + 1..end]);
+        print_input(out, &records[at + 1..end])?;
         at = end;
     }
+    Ok(())
 }
 
-fn main() {
-    let mut space = io::large_buffer();
-    let n = io::read_full(STDIN_FILENO, &mut space);
-    print_inputs(&space[..n]);
+fn main(rt: HostRuntime) -> io::Result<()> {
+    let mut records = Vec::new(rt.alloc());
+    rt.stdin().read_to_end(&mut records)?;
+    let mut out = BufWriter::new(rt.alloc(), rt.stdout())?;
+    print_inputs(&mut out, &records)?;
+    out.flush()
 }

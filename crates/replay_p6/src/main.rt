@@ -6,31 +6,44 @@
 
 ghost use Rattle.std.specs.Prelude.{◌+◌, ◌≤◌, length};
 
-use libc::{STDIN_FILENO, STDOUT_FILENO};
 use piet_c::p6::{piet_read_p6, piet_write_p6};
+use std::io;
+use std::io::{BufWriter, Read, Write};
 
-fn print_line(call: &[u8], number: u32, answer: &[u64], lent: &[u8]) {
-    io::write_all(STDOUT_FILENO, call);
-    stored::print_cell(number);
-    stored::print_numbers(answer);
-    io::write_all(STDOUT_FILENO, b" :");
-    stored::print_bytes(lent);
-    io::write_all(STDOUT_FILENO, b"\n");
+fn print_line<W: Write>(
+    out: &mut W,
+    call: &[u8],
+    number: u32,
+    answer: &[u64],
+    lent: &[u8],
+) -> io::Result<()> {
+    out.write_all(call)?;
+    stored::print_cell(out, number)?;
+    stored::print_numbers(out, answer)?;
+    out.write_all(b" :")?;
+    stored::print_bytes(out, lent)?;
+    out.write_all(b"\n")
 }
 
-fn print_case(kind: u8, height: usize, width: usize, body: &[u8], lent: &mut [u8]) {
+fn print_case<W: Write>(
+    out: &mut W,
+    kind: u8,
+    height: usize,
+    width: usize,
+    body: &[u8],
+    lent: &mut [u8],
+) -> io::Result<()> {
     if kind == 0 {
         let mut sides = [7u64; 2];
         let number = piet_read_p6(body, lent, &mut sides);
-        print_line(b"r", number, &sides, lent);
-        return;
+        return print_line(out, b"r", number, &sides, lent);
     }
     let mut size = [7u64; 1];
     let number = piet_write_p6(body, height, width, lent, &mut size);
-    print_line(b"w", number, &size, lent);
+    print_line(out, b"w", number, &size, lent)
 }
 
-fn print_at(cases: &[u8], at: usize, end: usize)
+fn print_at<W: Write>(out: &mut W, cases: &[u8], at: usize, end: usize) -> io::Result<()>
     requires { (at + 9 ≤ end) × (end ≤ length cases.now) }
 {
     let mut lent = [7u8; 65536];
@@ -38,25 +51,29 @@ fn print_at(cases: &[u8], at: usize, end: usize)
     let height = stored::pair_at(cases, at + 3);
     let width = stored::pair_at(cases, at + 5);
     print_case(
+        out,
         cases[at],
         height,
         width,
         &cases[at + 9..end],
         &mut lent[..room],
-    );
+    )
 }
 
-fn print_cases(cases: &[u8]) {
+fn print_cases<W: Write>(out: &mut W, cases: &[u8]) -> io::Result<()> {
     let mut at = 0;
     while 9 <= cases.len() - at {
         let end = stored::record_end(cases, at + 9, stored::pair_at(cases, at + 7));
-        print_at(cases, at, end);
+        print_at(out, cases, at, end)?;
         at = end;
     }
+    Ok(())
 }
 
-fn main() {
-    let mut space = io::large_buffer();
-    let n = io::read_full(STDIN_FILENO, &mut space);
-    print_cases(&space[..n]);
+fn main(rt: HostRuntime) -> io::Result<()> {
+    let mut cases = Vec::new(rt.alloc());
+    rt.stdin().read_to_end(&mut cases)?;
+    let mut out = BufWriter::new(rt.alloc(), rt.stdout())?;
+    print_cases(&mut out, &cases)?;
+    out.flush()
 }

@@ -10,44 +10,54 @@
 ghost use Rattle.std.specs.Prelude.{◌≤◌, length};
 
 use cfg::Built;
-use libc::{STDIN_FILENO, STDOUT_FILENO};
+use std::io;
+use std::io::{BufWriter, Read, Write};
 
-fn print_signed(v: i64) {
-    io::write_all(STDOUT_FILENO, b" ");
+fn print_signed<W: Write>(out: &mut W, v: i64) -> io::Result<()> {
+    out.write_all(b" ")?;
     if v < 0 {
-        io::write_all(STDOUT_FILENO, b"-");
+        out.write_all(b"-")?;
     }
-    io::print_decimal(STDOUT_FILENO, word::abs(v));
+    let size = word::abs(v);
+    write!(out, "{size}")
 }
 
-fn print_answer(answer: &[u64; 12]) {
+fn print_answer<W: Write>(out: &mut W, answer: &[u64; 12]) -> io::Result<()> {
     let numbers = &answer[..];
-    io::print_decimal(STDOUT_FILENO, numbers[0]);
-    stored::print_numbers(&numbers[1..]);
+    let first = numbers[0];
+    write!(out, "{first}")?;
+    stored::print_numbers(out, &numbers[1..])
 }
 
 // The first depth values from the last to the first.
-fn print_stack(stack: &[i64], depth: u64) {
-    io::write_all(STDOUT_FILENO, b" :");
+fn print_stack<W: Write>(out: &mut W, stack: &[i64], depth: u64) -> io::Result<()> {
+    out.write_all(b" :")?;
     let mut i = stack.len();
     while 0 < i {
         i -= 1;
         if (i as u64) < depth {
-            print_signed(stack[i]);
+            print_signed(out, stack[i])?;
         }
     }
+    Ok(())
 }
 
-fn print_outputs(kinds: &[u8], values: &[i64], outputs: u64) {
-    io::write_all(STDOUT_FILENO, b" :");
+fn print_outputs<W: Write>(
+    out: &mut W,
+    kinds: &[u8],
+    values: &[i64],
+    outputs: u64,
+) -> io::Result<()> {
+    out.write_all(b" :")?;
     let mut i = 0;
     while i < kinds.len() {
         if i < values.len() && (i as u64) < outputs {
-            stored::print_byte(kinds[i]);
-            print_signed(values[i]);
+            stored::print_byte(out, kinds[i])?;
+            print_signed(out, values[i])?;
         }
         i += 1;
     }
+    Ok(())
 }
 
 fn limit_of(a: u8, b: u8, c: u8, d: u8) -> u64 {
@@ -55,7 +65,8 @@ fn limit_of(a: u8, b: u8, c: u8, d: u8) -> u64 {
 }
 
 // The run that a question asks for, in the room that it lends.
-fn print_run(
+fn print_run<W: Write>(
+    out: &mut W,
     n: usize,
     rows: &[u32],
     exits: &[u32],
@@ -64,7 +75,7 @@ fn print_run(
     stack: &mut [i64],
     kinds: &mut [u8],
     values: &mut [i64],
-)
+) -> io::Result<()>
     requires { 9 ≤ length question.now }
 {
     let mut answer = [0u64; 12];
@@ -83,41 +94,44 @@ fn print_run(
         &mut answer,
     );
     if number != 0 {
-        io::write_all(STDOUT_FILENO, b"refused");
-        stored::print_cell(number);
-        return;
+        out.write_all(b"refused")?;
+        stored::print_cell(out, number)?;
+        return Ok(());
     }
-    print_answer(&answer);
-    print_stack(stack, answer[5]);
-    print_outputs(kinds, values, answer[6]);
+    print_answer(out, &answer)?;
+    print_stack(out, stack, answer[5])?;
+    print_outputs(out, kinds, values, answer[6])
 }
 
 // The counts of n regions.
-fn print_counts(visits: &[u64], n: usize) {
-    io::write_all(STDOUT_FILENO, b" :");
+fn print_counts<W: Write>(out: &mut W, visits: &[u64], n: usize) -> io::Result<()> {
+    out.write_all(b" :")?;
     let mut i = 0;
     while i < visits.len() {
         if i < n {
-            stored::print_number(visits[i]);
+            stored::print_number(out, visits[i])?;
         }
         i += 1;
     }
+    Ok(())
 }
 
 // The nodes at the beginning of a list.
-fn print_nodes(nodes: &[u32], count: u64) {
-    io::write_all(STDOUT_FILENO, b" :");
+fn print_nodes<W: Write>(out: &mut W, nodes: &[u32], count: u64) -> io::Result<()> {
+    out.write_all(b" :")?;
     let mut i = 0;
     while i < nodes.len() {
         if (i as u64) < count {
-            stored::print_cell(nodes[i]);
+            stored::print_cell(out, nodes[i])?;
         }
         i += 1;
     }
+    Ok(())
 }
 
 // How often the same run enters each region. A refusal is told by the run's line.
-fn print_visits(
+fn print_visits<W: Write>(
+    out: &mut W,
     n: usize,
     rows: &[u32],
     exits: &[u32],
@@ -126,7 +140,7 @@ fn print_visits(
     stack: &mut [i64],
     kinds: &mut [u8],
     values: &mut [i64],
-)
+) -> io::Result<()>
     requires { 9 ≤ length question.now }
 {
     let mut visits = [0u64; 1024];
@@ -149,16 +163,17 @@ fn print_visits(
         &mut answer,
     );
     if number != 0 {
-        return;
+        return Ok(());
     }
-    io::write_all(STDOUT_FILENO, b"\nvisits");
-    stored::print_number(answer[12]);
-    print_counts(&visits, n);
-    print_nodes(&unvisited, answer[12]);
+    out.write_all(b"\nvisits")?;
+    stored::print_number(out, answer[12])?;
+    print_counts(out, &visits, n)?;
+    print_nodes(out, &unvisited, answer[12])
 }
 
 // The exits that the same run takes, as far as there are cells. A refusal is told by the run's line.
-fn print_history(
+fn print_history<W: Write>(
+    out: &mut W,
     n: usize,
     rows: &[u32],
     exits: &[u32],
@@ -167,7 +182,7 @@ fn print_history(
     stack: &mut [i64],
     kinds: &mut [u8],
     values: &mut [i64],
-)
+) -> io::Result<()>
     requires { 9 ≤ length question.now }
 {
     let mut taken = [9999u32; 12];
@@ -188,14 +203,15 @@ fn print_history(
         &mut answer,
     );
     if number != 0 {
-        return;
+        return Ok(());
     }
-    io::write_all(STDOUT_FILENO, b"\nhistory");
-    stored::print_cells(&taken);
+    out.write_all(b"\nhistory")?;
+    stored::print_cells(out, &taken)
 }
 
 // The three lines, in the same room.
-fn print_answers(
+fn print_answers<W: Write>(
+    out: &mut W,
     n: usize,
     rows: &[u32],
     exits: &[u32],
@@ -204,15 +220,22 @@ fn print_answers(
     stack: &mut [i64],
     kinds: &mut [u8],
     values: &mut [i64],
-)
+) -> io::Result<()>
     requires { 9 ≤ length question.now }
 {
-    print_run(n, rows, exits, edition, question, stack, kinds, values);
-    print_visits(n, rows, exits, edition, question, stack, kinds, values);
-    print_history(n, rows, exits, edition, question, stack, kinds, values);
+    print_run(out, n, rows, exits, edition, question, stack, kinds, values)?;
+    print_visits(out, n, rows, exits, edition, question, stack, kinds, values)?;
+    print_history(out, n, rows, exits, edition, question, stack, kinds, values)
 }
 
-fn lend_and_run(n: usize, rows: &[u32], exits: &[u32], edition: u32, question: &[u8])
+fn lend_and_run<W: Write>(
+    out: &mut W,
+    n: usize,
+    rows: &[u32],
+    exits: &[u32],
+    edition: u32,
+    question: &[u8],
+) -> io::Result<()>
     requires { 9 ≤ length question.now }
 {
     let mut stack = [0i64; 256];
@@ -221,6 +244,7 @@ fn lend_and_run(n: usize, rows: &[u32], exits: &[u32], edition: u32, question: &
     let depth = stored::wide(question[5]);
     let room = stored::wide(question[6]);
     print_answers(
+        out,
         n,
         rows,
         exits,
@@ -229,15 +253,15 @@ fn lend_and_run(n: usize, rows: &[u32], exits: &[u32], edition: u32, question: &
         &mut stack[..depth],
         &mut kinds[..room],
         &mut values[..room],
-    );
+    )
 }
 
-fn print_question(picture: &[u8], question: &[u8]) {
+fn print_question<W: Write>(out: &mut W, picture: &[u8], question: &[u8]) -> io::Result<()> {
     if picture.len() < 5 {
-        return;
+        return Ok(());
     }
     if question.len() < 9 {
-        return;
+        return Ok(());
     }
     let mut map = [0u32; 1024];
     let mut rows = [0u32; 5120];
@@ -261,13 +285,13 @@ fn print_question(picture: &[u8], question: &[u8]) {
     match built {
         Built::Done { regions } => {
             let running = stored::edition(picture[1]);
-            lend_and_run(regions, &rows, &exits, running, question);
+            lend_and_run(out, regions, &rows, &exits, running, question)?;
         }
         _ => {
-            io::write_all(STDOUT_FILENO, b"refused");
+            out.write_all(b"refused")?;
         }
     }
-    io::write_all(STDOUT_FILENO, b"\n");
+    out.write_all(b"\n")
 }
 
 // Where the question that begins at an index ends; a cut one ends with the records.
@@ -282,18 +306,21 @@ fn question_end(records: &[u8], at: usize) -> usize
     stored::record_end(records, at + 9, stored::pair_at(records, at + 7))
 }
 
-fn print_records(records: &[u8]) {
+fn print_records<W: Write>(out: &mut W, records: &[u8]) -> io::Result<()> {
     let mut at = 0;
     while at < records.len() {
         let middle = stored::picture_end(records, at, 2);
         let end = question_end(records, middle);
-        print_question(&records[at..middle], &records[middle..end]);
+        print_question(out, &records[at..middle], &records[middle..end])?;
         at = end;
     }
+    Ok(())
 }
 
-fn main() {
-    let mut space = io::large_buffer();
-    let n = io::read_full(STDIN_FILENO, &mut space);
-    print_records(&space[..n]);
+fn main(rt: HostRuntime) -> io::Result<()> {
+    let mut records = Vec::new(rt.alloc());
+    rt.stdin().read_to_end(&mut records)?;
+    let mut out = BufWriter::new(rt.alloc(), rt.stdout())?;
+    print_records(&mut out, &records)?;
+    out.flush()
 }

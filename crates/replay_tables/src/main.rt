@@ -6,32 +6,48 @@
 ghost use Rattle.std.specs.Prelude.{◌≤◌};
 
 use cfg::Built;
-use libc::{STDIN_FILENO, STDOUT_FILENO};
+use std::io;
+use std::io::{BufWriter, Read, Write};
 
 // The first k cells, or all where there are fewer, each after a space.
-fn print_cells(cells: &[u32], k: usize) {
-    io::write_all(STDOUT_FILENO, b" :");
+fn print_cells<W: Write>(out: &mut W, cells: &[u32], k: usize) -> io::Result<()> {
+    out.write_all(b" :")?;
     let mut i = 0;
     while i < cells.len() {
         if i == k {
-            return;
+            return Ok(());
         }
-        stored::print_cell(cells[i]);
+        stored::print_cell(out, cells[i])?;
         i += 1;
     }
+    Ok(())
 }
 
-fn print_table(count: usize, n: usize, map: &[u32], rows: &[u32], exits: &[u32])
+fn print_table<W: Write>(
+    out: &mut W,
+    count: usize,
+    n: usize,
+    map: &[u32],
+    rows: &[u32],
+    exits: &[u32],
+) -> io::Result<()>
     requires { n ≤ 65536 }
 {
-    io::print_decimal(STDOUT_FILENO, n as u64);
-    print_cells(map, count);
-    print_cells(rows, table::rows_room(n));
-    print_cells(exits, table::exits_room(n));
+    write!(out, "{n}")?;
+    print_cells(out, map, count)?;
+    print_cells(out, rows, table::rows_room(n))?;
+    print_cells(out, exits, table::exits_room(n))
 }
 
 // A small picture: its table, or that it is refused.
-fn print_picture(colours: &[u8], height: usize, width: usize, codel: usize, edition: u32) {
+fn print_picture<W: Write>(
+    out: &mut W,
+    colours: &[u8],
+    height: usize,
+    width: usize,
+    codel: usize,
+    edition: u32,
+) -> io::Result<()> {
     let mut map = [0u32; 1024];
     let mut rows = [0u32; 5120];
     let mut exits = [0u32; 8192];
@@ -43,17 +59,17 @@ fn print_picture(colours: &[u8], height: usize, width: usize, codel: usize, edit
         Built::Done { regions } => {
             if regions <= 65536 {
                 let count = codel_count(height, width, codel);
-                print_table(count, regions, &map, &rows, &exits);
+                print_table(out, count, regions, &map, &rows, &exits)?;
             }
         }
         Built::White => {
-            io::write_all(STDOUT_FILENO, b"refused 9");
+            out.write_all(b"refused 9")?;
         }
         _ => {
-            io::write_all(STDOUT_FILENO, b"refused");
+            out.write_all(b"refused")?;
         }
     }
-    io::write_all(STDOUT_FILENO, b"\n");
+    out.write_all(b"\n")
 }
 
 // How many codels a picture of at most 255 x 255 pixels has; 0 for a codel of no width.
@@ -82,28 +98,31 @@ fn codel_count(height: usize, width: usize, codel: usize) -> usize {
     rows * cols
 }
 
-fn print_record(record: &[u8]) {
+fn print_record<W: Write>(out: &mut W, record: &[u8]) -> io::Result<()> {
     if record.len() < 4 {
-        return;
+        return Ok(());
     }
     let edition = stored::edition(record[0]);
     let height = stored::wide(record[1]);
     let width = stored::wide(record[2]);
     let codel = stored::wide(record[3]);
-    print_picture(&record[4..], height, width, codel, edition);
+    print_picture(out, &record[4..], height, width, codel, edition)
 }
 
-fn print_records(records: &[u8]) {
+fn print_records<W: Write>(out: &mut W, records: &[u8]) -> io::Result<()> {
     let mut at = 0;
     while at < records.len() {
         let end = stored::picture_end(records, at, 1);
-        print_record(&records[at..end]);
+        print_record(out, &records[at..end])?;
         at = end;
     }
+    Ok(())
 }
 
-fn main() {
-    let mut space = io::large_buffer();
-    let n = io::read_full(STDIN_FILENO, &mut space);
-    print_records(&space[..n]);
+fn main(rt: HostRuntime) -> io::Result<()> {
+    let mut records = Vec::new(rt.alloc());
+    rt.stdin().read_to_end(&mut records)?;
+    let mut out = BufWriter::new(rt.alloc(), rt.stdout())?;
+    print_records(&mut out, &records)?;
+    out.flush()
 }
