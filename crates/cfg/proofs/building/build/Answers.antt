@@ -1,3 +1,5 @@
+-- `cfg::building::build` meets its contract: where nothing is refused, what the tests left is what the table needs; any other answer leaves the slices as they were.
+-- Assumes nothing.
 use lib.ListN.{length}
 use Rattle.cfg.specs.Build.{done}
 use Rattle.picture.proofs.Codels.{frames}

@@ -3,15 +3,12 @@ use native.Mathlib.Omega.{arith}
 use Rattle.cfg.proofs.Refusing.{legal_stop, legal_more, legal_end}
 use Rattle.cfg.proofs.building.legal_first.Goals as goal
 
--- src/building.rt:49:5
 pub loop-i-init : goal.loop-i-init
 loop-i-init c = (omega arith, omega arith)
 
--- src/building.rt:50:17
 pub bounds-colours-i : goal.bounds-colours-i
 bounds-colours-i c = c.loop-i-test.true
 
--- src/building.rt:51:13
 pub returns-then-colours-i-gt19 : goal.returns-then-colours-i-gt19
 returns-then-colours-i-gt19 c =
     let the-args = c.args in
@@ -20,13 +17,11 @@ returns-then-colours-i-gt19 c =
     let z = legal_stop the-args.colours.now the-loop.i the-loop-test.true c.if-colours-i-gt19.true in
     omega (arith, the-loop.invariant.1)
 
--- src/building.rt:49:5
 pub loop-i-smaller : goal.loop-i-smaller
 loop-i-smaller c =
     let the-loop-test = c.loop-i-test in
     omega (arith, the-loop-test.true)
 
--- src/building.rt:49:5
 pub loop-i-preserved : goal.loop-i-preserved
 loop-i-preserved c =
     let the-loop-test = c.loop-i-test in
@@ -34,7 +29,6 @@ loop-i-preserved c =
     let the-args = c.args in
     (omega (arith, the-loop-test.true), the-loop.invariant.1 ∙ legal_more the-args.colours.now the-loop.i the-loop-test.true c.if-colours-i-gt19.false)
 
--- src/building.rt:44:1
 pub returns : goal.returns
 returns c =
     let the-args = c.args in

@@ -1,10 +1,10 @@
+-- `cfg::building::too_short` meets its contract: the four tests are those of the definition.
+-- Assumes nothing.
 use borrow.Author.Tests.{lt-ltb, le-ltb}
 use Rattle.cfg.specs.Build.{short}
 use Rattle.table.specs.Layout.{rows_room, exits_room}
 use Rattle.cfg.proofs.building.too_short.Goals as goal
 
--- `cfg::building::too_short` meets its contract: the four tests are those of the definition.
--- Assumes nothing.
 pub returns-then-map-count : goal.returns-then-map-count
 unfolding short
 returns-then-map-count c = rw (lt-ltb _ _ c.if-map-count.true)

@@ -1,3 +1,5 @@
+-- `cfg::building::write_table` meets its contract: the parts that are lent have exactly the room of the table, and come back before what stood past them.
+-- Assumes nothing.
 use mathlib.Core.Path.{sym}
 use Prim.Native.Nat.{◌*◌}
 use native.Mathlib.Omega.{arith}

@@ -1,11 +1,11 @@
+-- `cfg::filling::begin` meets its contract: the crate region's contracts, read at the shape of the picture.
+-- Assumes nothing.
 use mathlib.Core.Path.{◌∙◌}
 use native.Mathlib.Omega.{arith}
 use Rattle.picture.proofs.Codels.{frames_count}
 use Rattle.region.proofs.GridLaws.{framed_grid}
 use Rattle.cfg.proofs.filling.begin.Goals as goal
 
--- `cfg::filling::begin` meets its contract: the crate region's contracts, read at the shape of the picture.
--- Assumes nothing.
 pub number_regions-n-requires : goal.number_regions-n-requires
 number_regions-n-requires c =
     let the-pre = c.requires in
