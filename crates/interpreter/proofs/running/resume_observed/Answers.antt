@@ -1,0 +1,128 @@
+use mathlib.Core.Path.{◌≡◌, refl, ap, ◌∙◌}
+use lib.ListN.{length}
+use Prim.Native.Nat.{◌+◌}
+use native.Mathlib.Omega.{arith}
+use Rattle.machine.specs.Machine.{Given, given}
+use Rattle.machine.specs.Held.{Slices, slices}
+use Rattle.machine.proofs.Only.{AsLong}
+use Rattle.interpreter.specs.declared.stepping.Moved.TheVariants.{To}
+use Rattle.interpreter.specs.Resume.{machine_of, Placed}
+use Rattle.interpreter.specs.Moving.{After, Stepped}
+use Rattle.interpreter.proofs.RunLaws.{ends_halted, ends_limit}
+use Rattle.interpreter.proofs.Observing.{taken_length, observes_start, observes_room, observes_next, observes_end}
+use Rattle.interpreter.proofs.running.resume_observed.Goals as goal
+
+pub loop-at-init : goal.loop-at-init
+loop-at-init c =
+    let what : Given = given c.args.terms c.args.input.now in
+    let held : Slices = slices c.args.stack.now c.args.kinds.now c.args.values.now in
+    observes_start c.args.n c.args.rows.now c.args.exits.now what held c.args.from c.args.visits.now c.args.taken.now c.requires.placed c.requires.judged_in
+
+pub step-requires : goal.step-requires
+step-requires c =
+    let a = c.loop-at.invariant.along in
+    record {
+      good = c.requires.good;
+      placed = a.placed;
+      judged_in = a.judged;
+      steps_bound = omega (arith, c.loop-at-test.true, c.struct_known-in-loop-at-1.given.0);
+    }
+
+pub count_visit-requires : goal.count_visit-requires
+unfolding After
+count_visit-requires c =
+    let what : Given = given c.args.terms c.args.input.now in
+    let held : Slices = slices c.args.stack.now c.args.kinds.now c.args.values.now in
+    let standing : Slices = let l = c.loop-at in slices l.stack l.kinds l.values in
+    let left : Slices = slices c.step.new.stack c.step.new.kinds c.step.new.values in
+    let gone : Stepped c.args.n c.args.rows.now c.args.exits.now what standing c.loop-at.at left (To c.in-To.next c.in-To.by) = rw c.in-To.is at c.step.ensures in
+    let reached : Placed c.args.n left c.in-To.next × (c.in-To.next.steps ≡ c.loop-at.at.steps + 1) = (gone.leaves.0, gone.leaves.1) in
+    λ h.
+    observes_room c.args.n c.args.rows.now c.args.exits.now what held c.args.from c.args.visits.now c.args.taken.now c.loop-at.invariant c.requires.can_count
+    c.loop-at-test.true c.in-To.next.region reached.0.inside h
+
+pub loop-at-smaller : goal.loop-at-smaller
+unfolding After
+loop-at-smaller c =
+    let what : Given = given c.args.terms c.args.input.now in
+    let standing : Slices = let l = c.loop-at in slices l.stack l.kinds l.values in
+    let left : Slices = slices c.step.new.stack c.step.new.kinds c.step.new.values in
+    let gone : Stepped c.args.n c.args.rows.now c.args.exits.now what standing c.loop-at.at left (To c.in-To.next c.in-To.by) = rw c.in-To.is at c.step.ensures in
+    let reached : Placed c.args.n left c.in-To.next × (c.in-To.next.steps ≡ c.loop-at.at.steps + 1) = (gone.leaves.0, gone.leaves.1) in
+    omega (arith, c.loop-at-test.true, reached.1)
+
+pub loop-at-preserved : goal.loop-at-preserved
+loop-at-preserved c =
+    let what : Given = given c.args.terms c.args.input.now in
+    let held : Slices = slices c.args.stack.now c.args.kinds.now c.args.values.now in
+    let standing : Slices = let l = c.loop-at in slices l.stack l.kinds l.values in
+    let left : Slices = slices c.step.new.stack c.step.new.kinds c.step.new.values in
+    let long : AsLong left standing = record { stack = c.step.auto.stack; kinds = c.step.auto.kinds; values = c.step.auto.values } in
+    let gone : Stepped c.args.n c.args.rows.now c.args.exits.now what standing c.loop-at.at left (To c.in-To.next c.in-To.by) = rw c.in-To.is at c.step.ensures in
+    rw (c.keep_exit.ensures, c.count_visit.ensures)
+    (observes_next c.args.n c.args.rows.now c.args.exits.now what held c.args.from c.args.visits.now c.args.taken.now c.loop-at.invariant
+    c.loop-at-test.true gone long)
+
+pub shape_of-stack-in-Halted : goal.shape_of-stack-in-Halted
+shape_of-stack-in-Halted c =
+    let standing : Slices = let l = c.loop-at in slices l.stack l.kinds l.values in
+    let left : Slices = slices c.step.new.stack c.step.new.kinds c.step.new.values in
+    let long : AsLong left standing = record { stack = c.step.auto.stack; kinds = c.step.auto.kinds; values = c.step.auto.values } in
+    long.stack ∙ c.loop-at.invariant.along.long.stack
+
+pub shape_of-kinds-in-Halted : goal.shape_of-kinds-in-Halted
+shape_of-kinds-in-Halted c =
+    let standing : Slices = let l = c.loop-at in slices l.stack l.kinds l.values in
+    let left : Slices = slices c.step.new.stack c.step.new.kinds c.step.new.values in
+    let long : AsLong left standing = record { stack = c.step.auto.stack; kinds = c.step.auto.kinds; values = c.step.auto.values } in
+    long.kinds ∙ c.loop-at.invariant.along.long.kinds
+
+pub shape_of-values-in-Halted : goal.shape_of-values-in-Halted
+shape_of-values-in-Halted c =
+    let standing : Slices = let l = c.loop-at in slices l.stack l.kinds l.values in
+    let left : Slices = slices c.step.new.stack c.step.new.kinds c.step.new.values in
+    let long : AsLong left standing = record { stack = c.step.auto.stack; kinds = c.step.auto.kinds; values = c.step.auto.values } in
+    long.values ∙ c.loop-at.invariant.along.long.values
+
+pub shape_of-visits-in-Halted : goal.shape_of-visits-in-Halted
+shape_of-visits-in-Halted c = c.loop-at.invariant.long
+
+pub shape_of-taken-in-Halted : goal.shape_of-taken-in-Halted
+shape_of-taken-in-Halted c = ap length c.loop-at.invariant.kept ∙ taken_length c.args.taken.now c.loop-at.invariant.passed
+
+pub returns-in-Halted : goal.returns-in-Halted
+unfolding After
+returns-in-Halted c =
+    let what : Given = given c.args.terms c.args.input.now in
+    let held : Slices = slices c.args.stack.now c.args.kinds.now c.args.values.now in
+    let x = c.step in
+    let e = rw c.in-Halted.is at x.ensures in
+    let q = ends_halted c.args.n c.args.rows.now c.args.exits.now what held c.args.from c.loop-at.invariant.along
+    c.in-Halted.stop c.loop-at-test.true e in
+    record {
+      resumed = q;
+      observed_from = observes_end c.args.n c.args.rows.now c.args.exits.now what held c.args.from c.args.visits.now c.args.taken.now c.loop-at.invariant
+          (ap (λ (y : Slices). machine_of y c.loop-at.at) e.leaves) q;
+    }
+
+pub shape_of-stack : goal.shape_of-stack
+shape_of-stack c = c.loop-at.invariant.along.long.stack
+
+pub shape_of-kinds : goal.shape_of-kinds
+shape_of-kinds c = c.loop-at.invariant.along.long.kinds
+
+pub shape_of-values : goal.shape_of-values
+shape_of-values c = c.loop-at.invariant.along.long.values
+
+pub shape_of-visits : goal.shape_of-visits
+shape_of-visits c = c.loop-at.invariant.long
+
+pub shape_of-taken : goal.shape_of-taken
+shape_of-taken c = ap length c.loop-at.invariant.kept ∙ taken_length c.args.taken.now c.loop-at.invariant.passed
+
+pub returns : goal.returns
+returns c =
+    let what : Given = given c.args.terms c.args.input.now in
+    let held : Slices = slices c.args.stack.now c.args.kinds.now c.args.values.now in
+    let q = ends_limit c.args.n c.args.rows.now c.args.exits.now what held c.args.from c.loop-at.invariant.along c.loop-at-test.false in
+    record { resumed = q; observed_from = observes_end c.args.n c.args.rows.now c.args.exits.now what held c.args.from c.args.visits.now c.args.taken.now c.loop-at.invariant refl q }
