@@ -6,8 +6,9 @@ ghost use Rattle.std.specs.Prelude.{◌≡◌, ◌≤◌, length};
 ghost use Rattle.stream.specs.Responds.{Responds};
 ghost use Rattle.shade.specs.Shade.{Outcome};
 
-use libc::{STDIN_FILENO, STDOUT_FILENO};
-use stream::Stop;
+use anyhow::{Result, bail};
+use std::process::ExitCode;
+use stream::{Stop, Watched};
 
 // The text to print, at the start of out, and its length: the counts for an input that was read whole.
 fn respond(stop: Stop, job: &[u8], out: &mut [u8]) -> usize
@@ -25,16 +26,32 @@ fn respond(stop: Stop, job: &[u8], out: &mut [u8]) -> usize
 // One byte more than the longest job, so that a longer one is seen to be longer.
 const ROOM: usize = 8193;
 
-fn main() {
+// Reads a job and writes what is said of it.
+fn run(rt: &HostRuntime) -> Result<()> {
     let mut job = [0u8; ROOM];
-    let read = stream::read_whole(STDIN_FILENO, &mut job);
+    let mut input = Watched::new(rt.stdin());
+    let read = stream::read_whole(rt, &mut input, &mut job);
     if !stream::is_whole(read, ROOM) {
-        os::fail(b"pietshade: standard input can't be read");
+        let reason = input.reason();
+        bail!("standard input can't be read: {reason}");
     }
     let mut out = [0u8; 16384];
     let n = respond(read, &job, &mut out);
-    let written = stream::write_whole(STDOUT_FILENO, &out[..n]);
+    let mut output = Watched::new(rt.stdout());
+    let written = stream::write_whole(rt, &mut output, &out[..n]);
     if written.done < n {
-        os::fail(b"pietshade: standard output can't be written");
+        let reason = output.reason();
+        bail!("standard output can't be written: {reason}");
+    }
+    Ok(())
+}
+
+fn main(rt: HostRuntime) -> ExitCode {
+    match run(&rt) {
+        Ok(()) => ExitCode::SUCCESS,
+        Err(error) => {
+            let _ = eprintln!(rt; "pietshade: {error}");
+            ExitCode::FAILURE
+        }
     }
 }
