@@ -9,7 +9,6 @@ use Rattle.machine.specs.Held as held
 use Rattle.machine.specs.Held.{Slices}
 use Rattle.interpreter.specs.declared.Ended.{Ended}
 use Rattle.interpreter.specs.declared.Ran.{Ran}
-use Rattle.interpreter.specs.declared.Ran.TheVariants as Ran
 use Rattle.interpreter.specs.History.{History, regions_of}
 use Rattle.interpreter.specs.Outcome.{result_cells, result_of, ended_of, slices_of, refused_in, refusals_in, job_of, end_of}
 use Rattle.visits.specs.declared.Visited.{Visited}

@@ -1,0 +1,32 @@
+-- `visits::counting::count_visits` meets its contract. Before the first step region 0 has 1, and the others 0. Assumes nothing.
+use mathlib.Core.Path.{refl, ◌∙◌}
+use lib.ListN.{length-set}
+use Rattle.machine.specs.Machine.{given}
+use Rattle.machine.specs.Held.{slices}
+use Rattle.visits.proofs.Starting.{countable, counted}
+use Rattle.visits.proofs.counting.count_visits.Goals as goal
+
+pub slice_bounds-run_observed-end : goal.slice_bounds-run_observed-end
+slice_bounds-run_observed-end c = refl
+
+pub run_observed-requires : goal.run_observed-requires
+run_observed-requires c =
+    let f = c.fill_u64 in
+    let p = c.requires in
+    record {
+      good = p.good;
+      can_count = countable c.args.n c.args.visits.now f.new.d p.good.some p.n_in_bounds.0 f.ensures c.args.terms.limit p.n_in_bounds.1;
+    }
+
+pub shape_of-visits : goal.shape_of-visits
+shape_of-visits c =
+    let f = c.fill_u64 in
+    c.run_observed.auto.visits ∙ length-set f.new.d 0 _ ∙ f.auto.d
+
+pub returns : goal.returns
+returns c =
+    let f = c.fill_u64 in
+    let p = c.requires in record {
+      started = c.run_observed.ensures.started;
+      counted = counted c.args.n c.args.visits.now f.new.d p.good.some p.n_in_bounds.0 f.ensures (given c.args.terms c.args.input.now) (slices c.args.stack.now c.args.kinds.now c.args.values.now) p.good (c.run_observed.auto.visits ∙ length-set f.new.d 0 _ ∙ f.auto.d) c.run_observed.ensures.observed_all;
+    }
