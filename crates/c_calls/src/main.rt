@@ -146,10 +146,10 @@ fn classify<W: Write>(out: &mut W, setting: u8, answer: &mut [u64]) -> io::Resul
 }
 
 fn label<W: Write>(out: &mut W, answer: &mut [u64]) -> io::Result<()> {
-    let mut out = [81u8; 24];
-    let number = piet_c::piet_label(6, 3, 12, &mut out, answer);
+    let mut text = [81u8; 24];
+    let number = piet_c::piet_label(6, 3, 12, &mut text, answer);
     print_returned(out, b"piet_label", number, answer)?;
-    print_bytes(out, b"  out", &out)
+    print_bytes(out, b"  out", &text)
 }
 
 fn build<W: Write>(out: &mut W, edition: u32, answer: &mut [u64]) -> io::Result<()> {
