@@ -1,8 +1,10 @@
 // An input read whole and an output written whole, over a reader's read and a writer's write.
 #![tactic(auto)]
 
-ghost use Rattle.std.specs.Prelude.{◌≡◌, ◌-◌, ◌≤◌, length, pos, MatchOption};
-ghost use Rattle.std.specs.IoError.{raw_os_error};
+ghost use Rattle.std.specs.Prelude.{◌≡◌, ◌-◌, ◌≤◌, length, pos, None, Some, MatchOption, OnOk, IfErr};
+ghost use Rattle.std.specs.IoError.{raw_os_error, error_kind};
+ghost use Rattle.std.specs.Io.{ReadsAtMost, WritesAtMost};
+ghost use Rattle.std.specs.Io.KnownBytes.{ReadConsumes, WriteAppends};
 ghost use Rattle.stream.specs.Stream.{step_of, is_end, whole_input, Stops};
 ghost use Rattle.stream.specs.Calls.{moved_of, vain_of, goes_on, Makes, Reads};
 
@@ -184,12 +186,17 @@ pub struct Watched<T> {
 }
 
 impl<T> Watched<T> {
-    pub fn new(inner: T) -> Watched<T> {
+    pub fn new(inner: T) -> Watched<T>
+        ensures inner { result.inner ≡ inner }
+        ensures none { result.error ≡ None }
+    {
         Watched { inner, error: None }
     }
 
     // Why a call failed; where none did, some other error.
-    pub fn reason(&self) -> Error {
+    pub fn reason(&self) -> Error
+        ensures { MatchOption self.now.error (error_kind result ≡ ErrorKind.Other) (λ error. result ≡ error) }
+    {
         match self.error {
             Some(error) => error,
             None => Error::from(ErrorKind::Other),
@@ -198,7 +205,14 @@ impl<T> Watched<T> {
 }
 
 impl<R: Read> Read for Watched<R> {
-    fn read(&mut self, buf: &mut [u8]) -> io::Result<usize> {
+    ghost remaining = { λ w. R.remaining w.inner };
+
+    fn read(&mut self, buf: &mut [u8]) -> io::Result<usize>
+        ensures bound { ReadsAtMost result buf.new }
+        ensures bytes { ReadConsumes (R.remaining self.old.inner) (R.remaining self.new.inner) result buf.new }
+        ensures ok { OnOk result (self.new.error ≡ self.old.error) }
+        ensures err { IfErr result (λ error. self.new.error ≡ Some error) }
+    {
         match self.inner.read(buf) {
             Ok(n) => Ok(n),
             Err(error) => {
@@ -210,7 +224,14 @@ impl<R: Read> Read for Watched<R> {
 }
 
 impl<W: Write> Write for Watched<W> {
-    fn write(&mut self, buf: &[u8]) -> io::Result<usize> {
+    ghost contents = { λ w. W.contents w.inner };
+
+    fn write(&mut self, buf: &[u8]) -> io::Result<usize>
+        ensures bound { WritesAtMost result buf.now }
+        ensures bytes { WriteAppends (W.contents self.old.inner) (W.contents self.new.inner) result buf.now }
+        ensures ok { OnOk result (self.new.error ≡ self.old.error) }
+        ensures err { IfErr result (λ error. self.new.error ≡ Some error) }
+    {
         match self.inner.write(buf) {
             Ok(n) => Ok(n),
             Err(error) => {
