@@ -1,7 +1,7 @@
 -- The stack and the outputs of a store, read back from the slices that hold them. Assumes nothing.
-use mathlib.Core.Path.{◌≡◌, refl, sym, ap₂, ◌∙◌}
+use mathlib.Core.Path.{◌≡◌, refl, sym, subst, ap₂, ◌∙◌}
 use mathlib.Core.List.{List, [], ◌∷◌, ◌++◌, map, reverse, reverse-cons}
-use Prim.Native.Nat.{ℕ, zero, suc, ◌+◌, ◌-◌, ◌<◌, ◌≤◌}
+use Prim.Native.Nat.{ℕ, zero, suc, ◌-◌, ◌<◌, ◌≤◌}
 use native.Mathlib.Nat.{le_of_suc-le-suc, not-suc-le-zero}
 use native.Mathlib.Omega.{arith}
 use lib.ListN.{length, get_or, take, replicate, length-append, length-map}
@@ -20,7 +20,7 @@ unfolding stack_of
 stack_on [] rest = refl
 stack_on (v ∷ s) rest =
     let e : reverse (v ∷ s) ++ rest ≡ reverse s ++ (v ∷ rest) = rw (reverse-cons v s) (append_snoc (reverse s) v rest) in
-    rw e
+    subst (λ (l : List ℤ). stack_of l (suc (length s)) ≡ v ∷ s) (sym e)
     (ap₂ (λ (x : ℤ) (l : List ℤ). x ∷ l) (get_or_at (reverse s) v rest (pos 0) (length s) (reverse_length s)) (stack_on s (v ∷ rest)))
 
 pub stack_back : (room : ℕ) (s : List ℤ) → stack_of (cells_of room s) (length s) ≡ s

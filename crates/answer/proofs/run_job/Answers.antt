@@ -1,0 +1,59 @@
+-- `answer::run_job` meets its contract: what the run of the picture answers is printed.
+-- Assumes nothing.
+use mathlib.Core.Path.{◌≡◌, subst}
+use Rattle.piet.specs.declared.run_picture.Pictured.{Pictured}
+use Rattle.piet.specs.RunPicture as running
+use Rattle.piet.specs.RunPicture.{Lends, lends}
+use Rattle.job.specs.Encoding.{Content}
+use Rattle.job.specs.Outcome.{content_of}
+use Rattle.answer.specs.Program.{asked_of}
+use Rattle.answer.proofs.Ending.{Sized, fresh, fresh_sized}
+use Rattle.answer.proofs.Answering.{printable_end, prints_end, prints_refusal}
+use Rattle.answer.proofs.run_job.Goals as goal
+
+pub put_ended-requires : goal.put_ended-requires
+put_ended-requires c =
+    let content : Content = content_of c.args.job.now c.args.p in
+    let lent_after : Lends =
+    let z = c.run_parts-pictured.new in
+    lends z.colours z.map z.rows z.exits z.work z.stack z.kinds z.values in
+    let sized : Sized lent_after = record {
+      colours = c.run_parts-pictured.auto.colours;
+      map = c.run_parts-pictured.auto.map;
+      rows = c.run_parts-pictured.auto.rows;
+      exits = c.run_parts-pictured.auto.exits;
+      work = c.run_parts-pictured.auto.work;
+      stack = c.run_parts-pictured.auto.stack;
+      kinds = c.run_parts-pictured.auto.kinds;
+      values = c.run_parts-pictured.auto.values;
+    } in
+    let answered : (r : Pictured) → c.run_parts-pictured.result ≡ r → running.Outcome (asked_of content) fresh r lent_after = λ r e. subst (λ (x : Pictured). running.Outcome (asked_of content) fresh x lent_after) e c.run_parts-pictured.ensures in
+    printable_end content c.requires.1.said fresh_sized sized (answered _ c.in-Finished.is) _ c.requires.0
+
+pub returns-in-Finished : goal.returns-in-Finished
+returns-in-Finished c =
+    let content : Content = content_of c.args.job.now c.args.p in
+    let lent_after : Lends =
+    let z = c.run_parts-pictured.new in
+    lends z.colours z.map z.rows z.exits z.work z.stack z.kinds z.values in
+    let sized : Sized lent_after = record {
+      colours = c.run_parts-pictured.auto.colours;
+      map = c.run_parts-pictured.auto.map;
+      rows = c.run_parts-pictured.auto.rows;
+      exits = c.run_parts-pictured.auto.exits;
+      work = c.run_parts-pictured.auto.work;
+      stack = c.run_parts-pictured.auto.stack;
+      kinds = c.run_parts-pictured.auto.kinds;
+      values = c.run_parts-pictured.auto.values;
+    } in
+    let answered : (r : Pictured) → c.run_parts-pictured.result ≡ r → running.Outcome (asked_of content) fresh r lent_after = λ r e. subst (λ (x : Pictured). running.Outcome (asked_of content) fresh x lent_after) e c.run_parts-pictured.ensures in
+    prints_end content c.requires.1.said fresh_sized sized (answered _ c.in-Finished.is) c.put_ended.ensures
+
+pub returns-in-Refused : goal.returns-in-Refused
+returns-in-Refused c =
+    let content : Content = content_of c.args.job.now c.args.p in
+    let lent_after : Lends =
+    let z = c.run_parts-pictured.new in
+    lends z.colours z.map z.rows z.exits z.work z.stack z.kinds z.values in
+    let answered : (r : Pictured) → c.run_parts-pictured.result ≡ r → running.Outcome (asked_of content) fresh r lent_after = λ r e. subst (λ (x : Pictured). running.Outcome (asked_of content) fresh x lent_after) e c.run_parts-pictured.ensures in
+    prints_refusal content c.requires.1.said {l' = lent_after} fresh_sized (answered _ c.in-Refused.is) c.put_refusal.ensures
