@@ -20,7 +20,7 @@ use Rattle.cfg.specs.Build.{Written}
 use Rattle.piet.specs.declared.run_picture.Pictured.{Pictured}
 use Rattle.piet.specs.RunPicture.{Asked, Lends, refusal_of, RanPicture, Outcome, done}
 use Rattle.piet.specs.Drawn.{pictured_of, Draws}
-use Rattle.piet.proofs.Built.{picture_follows}
+use Rattle.piet.proofs.BuiltTables.{picture_follows}
 use Rattle.piet.proofs.Seeing.{length_under}
 use Rattle.piet.proofs.Refusing.{Accepted}
 

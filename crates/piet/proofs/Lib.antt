@@ -3,7 +3,7 @@
 pub mod Bridge
 pub mod MoveLaws
 pub mod Following
-pub mod Built
+pub mod BuiltTables
 pub mod FollowsOnly
 pub mod Seeing
 pub mod Refusing

@@ -25,7 +25,7 @@ use Rattle.visits.specs.Outcome as visiting
 use Rattle.visits.proofs.Only.{visits_finished}
 use Rattle.piet.specs.Follows.{entered_by, Follows}
 use Rattle.piet.specs.Decoded.{onto}
-use Rattle.piet.proofs.Built.{picture_follows, picture_moves, picture_visits}
+use Rattle.piet.proofs.BuiltTables.{picture_follows, picture_moves, picture_visits}
 use Rattle.netpbm.specs.declared.writing.Written.{Written}
 use Rattle.netpbm.specs.declared.writing.Written.TheVariants.{Done as Wrote, Size as WrongSize, Bytes as WrongBytes, Room as NoRoom}
 use Rattle.netpbm.specs.Reads as reading

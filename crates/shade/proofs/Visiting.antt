@@ -35,7 +35,7 @@ use Rattle.piet.specs.declared.run_picture.Pictured.TheVariants as Pictured
 use Rattle.piet.specs.Follows.{entered_by}
 use Rattle.piet.specs.RunPicture as running
 use Rattle.piet.specs.RunPicture.{Lends, asked_picture}
-use Rattle.piet.proofs.Built.{valid, picture_visits}
+use Rattle.piet.proofs.BuiltTables.{valid, picture_visits}
 use Rattle.piet.proofs.Refusing as picture
 use Rattle.job.specs.declared.Parts.{Parts}
 use Rattle.job.specs.Encoding.{Content, IsJob}

@@ -22,7 +22,7 @@ use Rattle.piet.specs.declared.run_picture.Pictured.TheVariants.{Finished}
 use Rattle.piet.specs.Follows.{Follows}
 use Rattle.piet.specs.RunPicture as running
 use Rattle.piet.specs.RunPicture.{Lends, asked_picture}
-use Rattle.piet.proofs.Built.{Followed, runs}
+use Rattle.piet.proofs.BuiltTables.{Followed, runs}
 use Rattle.piet.proofs.Following.{history_walks, stands_first, follows}
 use Rattle.piet.proofs.FollowsOnly.{follows_only}
 use Rattle.piet.proofs.Refusing as picture
