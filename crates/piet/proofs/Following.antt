@@ -189,7 +189,7 @@ module _ {p : Picture} {map rows exits : List ℕ} {n : ℕ} (S : Sound p) (g : 
   history_walks s stays = s
   history_walks {history} {m} {m'} s (passes {m' = next} {exits = rest} e q) =
       let k = step_kept job m next e in
-      subst (λ (r : ℕ). Stands (onto r rest (move_by m.region (exit_from job m) ∷ history)) m') k.region (history_walks (step_walks s k) q)
+      subst (λ (r : ℕ). Stands (onto r rest (move_by m.region (exit_from job m) ∷ history)) m') k.region (history_walks {history = move_by m.region (exit_from job m) ∷ history} (step_walks s k) q)
 
   -- a run follows the picture and ends at a region that is numbered
   abbrev Ends : End → Type 0

@@ -237,7 +237,7 @@ slide_lands {p} {rule} {past} {t} {r} {c} {r'} {c'} {s} {o} h e = (
     on (land k f) h e = (refl, cc)
 
 -- a block that is entered from white executes nothing
-pub enters_silently : {e : Edition} {p : Picture} {map : List ℕ} {r a b c d target i : ℕ} {q u v : PointerState} → Sound p → length map ≡ codels p → Valid q
+pub enters_silently : {e : Edition} {p : Picture} {map : List ℕ} {r a b c d target : ℕ} {q u v : PointerState} {i : ℕ} → Sound p → length map ≡ codels p → Valid q
     → Tried e p map r q (Glide a b c d u) → Opens e p map r q target v i
     → (g : Given) (size : ℕ) (m : Store) → exec g size (op_numbered i) m ≡ does m
 unfolding exec

@@ -6,7 +6,6 @@ use Rattle.cfg.specs.Build as building
 use Rattle.machine.specs.Machine.{Asks}
 use Rattle.machine.specs.Held.{Slices}
 use Rattle.interpreter.specs.declared.Ran.{Ran}
-use Rattle.interpreter.specs.declared.Ran.TheVariants as Ran
 use Rattle.interpreter.specs.Outcome as running
 use Rattle.piet.specs.declared.run_picture.Pictured.{Pictured}
 use Rattle.piet.specs.declared.run_picture.Pictured.TheVariants.{Finished, Refused}
