@@ -1,10 +1,10 @@
 // An input read whole and an output written whole, over a reader's read and a writer's write.
 #![tactic(auto)]
 
-ghost use Rattle.std.specs.Prelude.{◌≡◌, ◌-◌, ◌≤◌, length, pos, None, Some, MatchOption, OnOk, IfErr};
+ghost use Rattle.std.specs.Prelude.{◌≡◌, ◌-◌, ◌<◌, ◌≤◌, length, take, drop, true, pos, None, Some, MatchOption, OnOk, IfErr};
 ghost use Rattle.std.specs.IoError.{raw_os_error, error_kind};
 ghost use Rattle.std.specs.Io.{ReadsAtMost, WritesAtMost};
-ghost use Rattle.std.specs.Io.KnownBytes.{ReadConsumes, WriteAppends};
+ghost use Rattle.std.specs.Io.KnownBytes.{Appends, Consumes, IsAtEnd, ReadConsumes, WriteAppends};
 ghost use Rattle.stream.specs.Stream.{step_of, is_end, whole_input, Stops};
 ghost use Rattle.stream.specs.Calls.{moved_of, vain_of, goes_on, Makes, Reads};
 
@@ -107,7 +107,9 @@ fn number_of(error: &Error) -> i32
 // One read into buf, from an index on.
 fn read_from<R: Read>(reader: &mut R, buf: &mut [u8], from: usize) -> Step
     requires { from ≤ length buf.old }
-    ensures { Reads buf.old from result buf.new }
+    ensures reads { Reads buf.old from result buf.new }
+    ensures bytes { Consumes (R.remaining reader.old) (R.remaining reader.new) (take (moved_of result) (drop from buf.new)) }
+    ensures end { is_end result ≡ true → from < length buf.old → IsAtEnd (R.remaining reader.new) }
 {
     match reader.read(&mut buf[from..]) {
         Ok(n) => judge(n as isize, 0),
@@ -118,7 +120,8 @@ fn read_from<R: Read>(reader: &mut R, buf: &mut [u8], from: usize) -> Step
 // One write of buf's bytes from an index on.
 fn write_from<W: Write>(writer: &mut W, buf: &[u8], from: usize) -> Step
     requires { from ≤ length buf.now }
-    ensures { Makes (length buf.now - from) result }
+    ensures makes { Makes (length buf.now - from) result }
+    ensures bytes { Appends (W.contents writer.old) (W.contents writer.new) (take (moved_of result) (drop from buf.now)) }
 {
     match writer.write(&buf[from..]) {
         Ok(n) => judge(n as isize, 0),
@@ -128,7 +131,9 @@ fn write_from<W: Write>(writer: &mut W, buf: &[u8], from: usize) -> Step
 
 // Reads until buf is full, the input ends or a read fails.
 pub fn read_whole<R: Read>(clock: &impl Clock, reader: &mut R, buf: &mut [u8]) -> Stop
-    ensures { Stops result buf.old buf.new }
+    ensures stops { Stops result buf.old buf.new }
+    ensures bytes { Consumes (R.remaining reader.old) (R.remaining reader.new) (take result.done buf.new) }
+    ensures end { is_end result.last ≡ true → IsAtEnd (R.remaining reader.new) }
 {
     let mut done = 0;
     let mut last = Step::Again;
@@ -143,7 +148,8 @@ pub fn read_whole<R: Read>(clock: &impl Clock, reader: &mut R, buf: &mut [u8]) -
 
 // Writes until all of buf is written or a write fails.
 pub fn write_whole<W: Write>(clock: &impl Clock, writer: &mut W, buf: &[u8]) -> Stop
-    ensures { result.done ≤ length buf.now }
+    ensures within { result.done ≤ length buf.now }
+    ensures bytes { Appends (W.contents writer.old) (W.contents writer.new) (take result.done buf.now) }
 {
     let mut done = 0;
     let mut last = Step::Again;
