@@ -172,13 +172,7 @@ pub fn piet_classify(
 }
 
 // The label of a region; answer: its length.
-pub fn piet_label(
-    colour: u8,
-    row: usize,
-    column: usize,
-    out: &mut [u8],
-    answer: &mut [u64],
-) -> u32
+pub fn piet_label(colour: u8, row: usize, column: usize, out: &mut [u8], answer: &mut [u64]) -> u32
     ensures { Exported 1 (LabelCall colour row column out.old) out.old answer.old result out.new answer.new }
 {
     if answer.len() < 1 {
@@ -234,12 +228,7 @@ fn of_forever(r: Forever) -> One
 }
 
 // Whether every node of a table has an exit; answer: 1 for yes, 0 for no.
-pub fn piet_determine_runs_forever(
-    n: usize,
-    rows: &[u32],
-    exits: &[u32],
-    answer: &mut [u64],
-) -> u32
+pub fn piet_determine_runs_forever(n: usize, rows: &[u32], exits: &[u32], answer: &mut [u64]) -> u32
     ensures { Exported 1 (ForeverCall n rows.now exits.now) tt answer.old result tt answer.new }
 {
     if answer.len() < 1 {

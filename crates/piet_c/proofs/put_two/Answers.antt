@@ -1,0 +1,8 @@
+-- `piet_c::put_two` meets its contract. Assumes nothing.
+use mathlib.Core.List.{[], ◌∷◌}
+use Rattle.piet_c.proofs.Telling.{cells, cells_put}
+use Rattle.piet_c.proofs.put_two.Goals as goal
+
+pub returns : goal.returns
+unfolding cells
+returns c = cells_put (c.args.first ∷ c.args.second ∷ []) _ c.requires
