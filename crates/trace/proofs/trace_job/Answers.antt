@@ -1,0 +1,63 @@
+-- `trace::trace_job` meets its contract: a refusal is printed, and else the trace of the run that was made.
+-- Assumes nothing.
+use mathlib.Core.Path.{◌≡◌, subst}
+use Rattle.piet.specs.declared.run_picture.Pictured.{Pictured}
+use Rattle.piet.specs.RunPicture as running
+use Rattle.piet.specs.RunPicture.{Lends, lends}
+use Rattle.job.specs.Encoding.{Content}
+use Rattle.job.specs.Outcome.{content_of}
+use Rattle.answer.specs.Program.{asked_of}
+use Rattle.answer.proofs.Ending.{Sized, fresh, fresh_sized}
+use Rattle.answer.proofs.Answering.{prints_refusal}
+use Rattle.trace.proofs.Tracing.{endable, prints_trace}
+use Rattle.trace.proofs.trace_job.Goals as goal
+
+pub trace_parts-requires : goal.trace_parts-requires
+trace_parts-requires c =
+    let content : Content = content_of c.args.job.now c.args.p in
+    let lent_after : Lends =
+    let z = c.run_parts-pictured.new in
+    lends z.colours z.map z.rows z.exits z.work z.stack z.kinds z.values in
+    let sized : Sized lent_after = record {
+      colours = c.colours-2-1.given;
+      map = c.map-2-1.given;
+      rows = c.rows-2-1.given;
+      exits = c.exits-2-1.given;
+      work = c.work-2-1.given;
+      stack = c.stack-2-1.given;
+      kinds = c.kinds-2-1.given;
+      values = c.values-2-1.given;
+    } in
+    let answered : (r : Pictured) → c.run_parts-pictured.result ≡ r → running.Outcome (asked_of content) fresh r lent_after = λ r e. subst (λ (x : Pictured). running.Outcome (asked_of content) fresh x lent_after) e c.run_parts-pictured.ensures in
+    record {
+      reads = c.requires.1;
+      endable = endable content fresh_sized sized (answered _ c.in-Finished.is) _ c.requires.0;
+    }
+
+pub returns-in-Finished : goal.returns-in-Finished
+returns-in-Finished c =
+    let content : Content = content_of c.args.job.now c.args.p in
+    let lent_after : Lends =
+    let z = c.run_parts-pictured.new in
+    lends z.colours z.map z.rows z.exits z.work z.stack z.kinds z.values in
+    let sized : Sized lent_after = record {
+      colours = c.colours-2-1.given;
+      map = c.map-2-1.given;
+      rows = c.rows-2-1.given;
+      exits = c.exits-2-1.given;
+      work = c.work-2-1.given;
+      stack = c.stack-2-1.given;
+      kinds = c.kinds-2-1.given;
+      values = c.values-2-1.given;
+    } in
+    let answered : (r : Pictured) → c.run_parts-pictured.result ≡ r → running.Outcome (asked_of content) fresh r lent_after = λ r e. subst (λ (x : Pictured). running.Outcome (asked_of content) fresh x lent_after) e c.run_parts-pictured.ensures in
+    prints_trace content fresh_sized sized (answered _ c.in-Finished.is) c.requires.1.said c.trace_parts.ensures
+
+pub returns-in-Refused : goal.returns-in-Refused
+returns-in-Refused c =
+    let content : Content = content_of c.args.job.now c.args.p in
+    let lent_after : Lends =
+    let z = c.run_parts-pictured.new in
+    lends z.colours z.map z.rows z.exits z.work z.stack z.kinds z.values in
+    let answered : (r : Pictured) → c.run_parts-pictured.result ≡ r → running.Outcome (asked_of content) fresh r lent_after = λ r e. subst (λ (x : Pictured). running.Outcome (asked_of content) fresh x lent_after) e c.run_parts-pictured.ensures in
+    prints_refusal content c.requires.1.said {l' = lent_after} fresh_sized (answered _ c.in-Refused.is) c.put_refusal.ensures
