@@ -31,7 +31,6 @@ use Rattle.visits.proofs.Answering.{Tested, unknown, wrong, endless, short, righ
 use Rattle.visits.proofs.Only.{not_refused}
 use Rattle.visits.proofs.Starting.{counts_held}
 use Rattle.piet.specs.declared.run_picture.Pictured.{Pictured}
-use Rattle.piet.specs.declared.run_picture.Pictured.TheVariants as Pictured
 use Rattle.piet.specs.Follows.{entered_by}
 use Rattle.piet.specs.RunPicture as running
 use Rattle.piet.specs.RunPicture.{Lends, asked_picture}
