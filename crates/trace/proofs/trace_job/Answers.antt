@@ -10,6 +10,7 @@ use Rattle.answer.specs.Program.{asked_of}
 use Rattle.answer.proofs.Ending.{Sized, fresh, fresh_sized}
 use Rattle.answer.proofs.Answering.{prints_refusal}
 use Rattle.trace.proofs.Tracing.{endable, prints_trace}
+use Rattle.std.proofs.Common.{rules}
 use Rattle.trace.proofs.trace_job.Goals as goal
 
 pub trace_parts-requires : goal.trace_parts-requires
@@ -19,14 +20,14 @@ trace_parts-requires c =
     let z = c.run_parts-pictured.new in
     lends z.colours z.map z.rows z.exits z.work z.stack z.kinds z.values in
     let sized : Sized lent_after = record {
-      colours = c.colours-2-1.given;
-      map = c.map-2-1.given;
-      rows = c.rows-2-1.given;
-      exits = c.exits-2-1.given;
-      work = c.work-2-1.given;
-      stack = c.stack-2-1.given;
-      kinds = c.kinds-2-1.given;
-      values = c.values-2-1.given;
+      colours = search rules;
+      map = search rules;
+      rows = search rules;
+      exits = search rules;
+      work = search rules;
+      stack = search rules;
+      kinds = search rules;
+      values = search rules;
     } in
     let answered : (r : Pictured) → c.run_parts-pictured.result ≡ r → running.Outcome (asked_of content) fresh r lent_after = λ r e. subst (λ (x : Pictured). running.Outcome (asked_of content) fresh x lent_after) e c.run_parts-pictured.ensures in
     record {
@@ -41,14 +42,14 @@ returns-in-Finished c =
     let z = c.run_parts-pictured.new in
     lends z.colours z.map z.rows z.exits z.work z.stack z.kinds z.values in
     let sized : Sized lent_after = record {
-      colours = c.colours-2-1.given;
-      map = c.map-2-1.given;
-      rows = c.rows-2-1.given;
-      exits = c.exits-2-1.given;
-      work = c.work-2-1.given;
-      stack = c.stack-2-1.given;
-      kinds = c.kinds-2-1.given;
-      values = c.values-2-1.given;
+      colours = search rules;
+      map = search rules;
+      rows = search rules;
+      exits = search rules;
+      work = search rules;
+      stack = search rules;
+      kinds = search rules;
+      values = search rules;
     } in
     let answered : (r : Pictured) → c.run_parts-pictured.result ≡ r → running.Outcome (asked_of content) fresh r lent_after = λ r e. subst (λ (x : Pictured). running.Outcome (asked_of content) fresh x lent_after) e c.run_parts-pictured.ensures in
     prints_trace content fresh_sized sized (answered _ c.in-Finished.is) c.requires.1.said c.trace_parts.ensures
