@@ -29,7 +29,7 @@ overflow_mul-n c =
     let asks : Asked = asked c.args.pixels.now c.args.height c.args.width c.args.setting c.args.codel what in
     let has : Lends = lends c.args.colours.now c.args.map.now c.args.rows.now c.args.exits.now c.args.work.now c.args.stack.now c.args.kinds.now c.args.values.now in
     let accepting : Accepted asks has =
-    accepted asks has c.check-refusal.result.number (c.check-refusal.result.row ∷ c.check-refusal.result.column ∷ []) c.if-refusal-ne0.false (let a = c.args in c.check-refusal.ensures a.limit a.abstract_mode a.input.now) in
+    accepted asks has c.check-refusal.result.number (c.check-refusal.result.row ∷ c.check-refusal.result.column ∷ []) (omega arith) (let a = c.args in c.check-refusal.ensures a.limit a.abstract_mode a.input.now) in
     let k = accepting.passing in
     record { fits = omega (arith, area (side c.args.height k.high).1 (side c.args.width k.wide).1) }
 
@@ -39,7 +39,7 @@ slice_bounds-run_colours-end c =
     let asks : Asked = asked c.args.pixels.now c.args.height c.args.width c.args.setting c.args.codel what in
     let has : Lends = lends c.args.colours.now c.args.map.now c.args.rows.now c.args.exits.now c.args.work.now c.args.stack.now c.args.kinds.now c.args.values.now in
     let accepting : Accepted asks has =
-    accepted asks has c.check-refusal.result.number (c.check-refusal.result.row ∷ c.check-refusal.result.column ∷ []) c.if-refusal-ne0.false (let a = c.args in c.check-refusal.ensures a.limit a.abstract_mode a.input.now) in
+    accepted asks has c.check-refusal.result.number (c.check-refusal.result.row ∷ c.check-refusal.result.column ∷ []) (omega arith) (let a = c.args in c.check-refusal.ensures a.limit a.abstract_mode a.input.now) in
     let fits : let a = asks in a.height * a.width ≤ length c.classify.new.colours = omega (arith, accepting.passing.fits, c.classify.auto.colours) in
     fits
 
@@ -49,7 +49,7 @@ slice_bounds-run_colours-end-2 c =
     let asks : Asked = asked c.args.pixels.now c.args.height c.args.width c.args.setting c.args.codel what in
     let has : Lends = lends c.args.colours.now c.args.map.now c.args.rows.now c.args.exits.now c.args.work.now c.args.stack.now c.args.kinds.now c.args.values.now in
     let accepting : Accepted asks has =
-    accepted asks has c.check-refusal.result.number (c.check-refusal.result.row ∷ c.check-refusal.result.column ∷ []) c.if-refusal-ne0.false (let a = c.args in c.check-refusal.ensures a.limit a.abstract_mode a.input.now) in
+    accepted asks has c.check-refusal.result.number (c.check-refusal.result.row ∷ c.check-refusal.result.column ∷ []) (omega arith) (let a = c.args in c.check-refusal.ensures a.limit a.abstract_mode a.input.now) in
     let fits : let a = asks in a.height * a.width ≤ length c.classify.new.colours = omega (arith, accepting.passing.fits, c.classify.auto.colours) in
     sym (length-take-le _ _ fits)
 
@@ -59,7 +59,7 @@ run_colours-requires c =
     let asks : Asked = asked c.args.pixels.now c.args.height c.args.width c.args.setting c.args.codel what in
     let has : Lends = lends c.args.colours.now c.args.map.now c.args.rows.now c.args.exits.now c.args.work.now c.args.stack.now c.args.kinds.now c.args.values.now in
     let accepting : Accepted asks has =
-    accepted asks has c.check-refusal.result.number (c.check-refusal.result.row ∷ c.check-refusal.result.column ∷ []) c.if-refusal-ne0.false (let a = c.args in c.check-refusal.ensures a.limit a.abstract_mode a.input.now) in
+    accepted asks has c.check-refusal.result.number (c.check-refusal.result.row ∷ c.check-refusal.result.column ∷ []) (omega arith) (let a = c.args in c.check-refusal.ensures a.limit a.abstract_mode a.input.now) in
     let shown : let a = asks in take (a.height * a.width) c.classify.new.colours ≡ colours_under a.pixels a.setting = painted_part asks has accepting c.classify.new.colours c.classify.ensures in
     rw shown accepting.builds
 
@@ -69,6 +69,6 @@ returns c =
     let asks : Asked = asked c.args.pixels.now c.args.height c.args.width c.args.setting c.args.codel what in
     let has : Lends = lends c.args.colours.now c.args.map.now c.args.rows.now c.args.exits.now c.args.work.now c.args.stack.now c.args.kinds.now c.args.values.now in
     let accepting : Accepted asks has =
-    accepted asks has c.check-refusal.result.number (c.check-refusal.result.row ∷ c.check-refusal.result.column ∷ []) c.if-refusal-ne0.false (let a = c.args in c.check-refusal.ensures a.limit a.abstract_mode a.input.now) in
+    accepted asks has c.check-refusal.result.number (c.check-refusal.result.row ∷ c.check-refusal.result.column ∷ []) (omega arith) (let a = c.args in c.check-refusal.ensures a.limit a.abstract_mode a.input.now) in
     let shown : let a = asks in take (a.height * a.width) c.classify.new.colours ≡ colours_under a.pixels a.setting = painted_part asks has accepting c.classify.new.colours c.classify.ensures in
     drawn asks has _ accepting.none (painted asks has accepting c.classify.new.colours c.classify.ensures) (rw shown at c.run_colours.ensures)
