@@ -26,8 +26,13 @@ fn respond(stop: Stop, job: &[u8], out: &mut [u8]) -> usize
 // One byte more than the longest job, so that a longer one is seen to be longer.
 const ROOM: usize = 8193;
 
+// The room of the longest trace (rule 18.4). A parameter of `run`, since a proof that sees so long an array computes it.
+const OUT: usize = 524288;
+
 // Reads a job and writes what is said of it.
-fn run(rt: &HostRuntime) -> Result<()> {
+fn run<const N: usize>(rt: &HostRuntime) -> Result<()>
+    requires { N ≤ 1048576 }
+{
     let mut job = [0u8; ROOM];
     let mut input = Watched::new(rt.stdin());
     let read = stream::read_whole(rt, &mut input, &mut job);
@@ -35,7 +40,7 @@ fn run(rt: &HostRuntime) -> Result<()> {
         let reason = input.reason();
         bail!("standard input can't be read: {reason}");
     }
-    let mut out = [0u8; 524288];
+    let mut out = [0u8; N];
     let n = respond(read, &job, &mut out);
     let mut output = Watched::new(rt.stdout());
     let written = stream::write_whole(rt, &mut output, &out[..n]);
@@ -47,7 +52,7 @@ fn run(rt: &HostRuntime) -> Result<()> {
 }
 
 fn main(rt: HostRuntime) -> ExitCode {
-    match run(&rt) {
+    match run::<OUT>(&rt) {
         Ok(()) => ExitCode::SUCCESS,
         Err(error) => {
             let _ = eprintln!(rt; "piettrace: {error}");
