@@ -1,12 +1,12 @@
 -- Laws of counting in lists.
 --     Below                                   all numbers of a list are below n
---     count-append, count_most, count_past    one list after another; no more than there are; none of a number that all are below
---     one-most                                what is counted for one element is at most 1
---     counts-at, counts-length, counts-sum    the counts of the numbers below n: each, how many, and all together
---     counts-none, counts-more                all together, of no numbers and of one number more
---     those-one, those-not, those-none        one number more is tested, which passes or does not; and none
---     those-most, those-count, those-rise     those of the numbers below n: no more than n, each once, and rising
---     those-same                              tests that agree below n find the same
+--     count_append, count_most, count_past    one list after another; no more than there are; none of a number that all are below
+--     one_most                                what is counted for one element is at most 1
+--     counts_at, counts_length, counts_sum    the counts of the numbers below n: each, how many, and all together
+--     counts_none, counts_more                all together, of no numbers and of one number more
+--     those_one, those_not, those_none        one number more is tested, which passes or does not; and none
+--     those_most, those_count, those_rise     those of the numbers below n: no more than n, each once, and rising
+--     those_same                              tests that agree below n find the same
 -- Assumes nothing.
 use mathlib.Core.Path.{◌≡◌, refl, sym, ap, ◌∙◌}
 use mathlib.Core.Bool.{Bool, true, false, cond, ◌&&◌}

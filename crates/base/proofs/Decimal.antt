@@ -1,9 +1,9 @@
 -- Laws of decimal digits.
---     decimal-small, decimal-more                   a number below ten; a larger one by its last digit
---     decimal-length                                how many there are at most
---     decimal-value, decimal-some, decimal-lead     they have the number as their value, there is one, and the first is
+--     decimal_small, decimal_more                   a number below ten; a larger one by its last digit
+--     decimal_length                                how many there are at most
+--     decimal_value, decimal_some, decimal_lead     they have the number as their value, there is one, and the first is
 --                                                   not `0` but for the number 0
---     decimal-numeral                               and all of them are digits
+--     decimal_numeral                               and all of them are digits
 -- Assumes nothing.
 use mathlib.Core.Path.{◌≡◌, ◌∙◌, sym, refl}
 use mathlib.Core.Bool.{true}

@@ -1,4 +1,4 @@
-// Calls every function for C by position and prints what is returned, the answer and every lent slice. A swap of two
+// Calls every function of piet_c by position and prints what is returned, the answer and every lent slice. A swap of two
 // parameters in a signature is proved, since its contract is swapped with it; here another text than `stdout` is printed.
 //
 // One picture is used throughout, but for the file that is read: 3 x 5 pixels in codels of 2, so that its three numbers

@@ -1,7 +1,7 @@
 -- Black is a node as region 0 alone, and its exits have no instruction (rule 4.6).
---     black-node       a node with a black codel is region 0
---     black-silent     an open attempt of a black region has no instruction
---     black-exit       the number of its exit says none, where it is not that of a lost slide in edition 2
+--     black_node       a node with a black codel is region 0
+--     black_silent     an open attempt of a black region has no instruction
+--     black_exit       the number of its exit says none, where it is not that of a lost slide in edition 2
 -- Assumes nothing.
 use mathlib.Core.Path.{◌≡◌, refl, sym, ◌∙◌}
 use mathlib.Core.List.{List}

@@ -1,14 +1,14 @@
 -- The table of a picture in edition 2 beside that in edition 1 (rules 16.5, 16.8).
---     same-table      map and count of regions are the same, and so are the rows but for their marks
---     found-both      what is found in edition 1 is found in edition 2, so that a node of 1 is one of 2
---     marks-grow      and its mark stays
---     new-found       what is found in edition 2 alone is found from where a long slide lands, one of a region that is found in
+--     same_table      map and count of regions are the same, and so are the rows but for their marks
+--     found_both      what is found in edition 1 is found in edition 2, so that a node of 1 is one of 2
+--     marks_grow      and its mark stays
+--     new_found       what is found in edition 2 alone is found from where a long slide lands, one of a region that is found in
 --                     edition 1; a slide is long that lands after its eighth turn
---     exits-beside    an exit of edition 2 is that of edition 1; or there it is 0, and here it is that of a lost slide, the one to
+--     exits_beside    an exit of edition 2 is that of edition 1; or there it is 0, and here it is that of a lost slide, the one to
 --                     where a long slide lands, or that of an open attempt of a node of edition 2 alone
---     same-exit       so where edition 1 has an exit, edition 2 has the same one
---     lost-exits      edition 2 has 9,437,185 at the lost slides of nodes, and nowhere else
---     lost-shut       where it has that, edition 1 has 0
+--     same_exit       so where edition 1 has an exit, edition 2 has the same one
+--     lost_exits      edition 2 has 9,437,185 at the lost slides of nodes, and nowhere else
+--     lost_shut       where it has that, edition 1 has 0
 -- Assumes nothing.
 use mathlib.Core.Path.{◌≡◌, refl, subst}
 use mathlib.Core.List.{List}

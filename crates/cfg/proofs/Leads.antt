@@ -1,7 +1,7 @@
 -- Where the exits of a table lead.
---     opens-leads    an open attempt of a found region leads to a node, in a state, with an instruction of rule 1.5
---     open-fits      the number of an open attempt is at most 9,437,184
---     exit-fits      an exit is at most the largest of its edition, and what it says of a target is a region's number, as the
+--     opens_leads    an open attempt of a found region leads to a node, in a state, with an instruction of rule 1.5
+--     open_fits      the number of an open attempt is at most 9,437,184
+--     exit_fits      an exit is at most the largest of its edition, and what it says of a target is a region's number, as the
 --                    run asks
 -- Assumes nothing.
 use mathlib.Core.Path.{◌≡◌, sym, subst, ◌∙◌}

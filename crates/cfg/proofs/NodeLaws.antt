@@ -1,7 +1,7 @@
 -- Where the attempts of a found region lead, and what the colour of a region is.
---     opens-found      an open attempt leads to a found region
---     number-exit      what the code makes of a node's attempt is its exit; of a lost slide by the edition
---     joined-colour    joined codels have one colour
+--     opens_found      an open attempt leads to a found region
+--     number_exit      what the code makes of a node's attempt is its exit; of a lost slide by the edition
+--     joined_colour    joined codels have one colour
 -- Assumes nothing.
 use mathlib.Core.Path.{◌≡◌, refl, sym, subst, ◌∙◌}
 use mathlib.Core.List.{List}

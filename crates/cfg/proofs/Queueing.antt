@@ -1,5 +1,5 @@
 -- The queue of the search, as regions are visited.
---     queue-none      nothing is marked
+--     queue_none      nothing is marked
 --     visited         one region is visited
 --     queued          the regions that a way adds are visited
 -- Assumes nothing.

@@ -1,7 +1,7 @@
 -- The refusals of building: what each test says, and what a call that is not refused may rely on.
 --     known               where nothing is refused the number names an edition
 --     accepted            and the picture is sound and there is room
---     outcome-only        two outcomes for one input are one
+--     outcome_only        two outcomes for one input are one
 -- Assumes nothing.
 use mathlib.Core.Path.{◌≡◌, refl, sym, ap, ◌∙◌}
 use mathlib.Core.Bool.{Bool, true, false, not, ◌||◌, true≢false}

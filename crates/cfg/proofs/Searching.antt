@@ -1,8 +1,8 @@
 -- The search, as the regions are taken from the queue.
---     search-start    region 0 is queued
---     search-taken    the region at the queue's head may be taken
---     search-turn     it is taken
---     search-end      the queue is empty: the marked regions are those found
+--     search_start    region 0 is queued
+--     search_taken    the region at the queue's head may be taken
+--     search_turn     it is taken
+--     search_end      the queue is empty: the marked regions are those found
 -- Assumes nothing.
 use mathlib.Core.Path.{◌≡◌, refl, sym, subst, ◌∙◌}
 use mathlib.Core.Logic.{◌≢◌, by_cases}

@@ -1,7 +1,7 @@
 -- One attempt of a region, and the eight of them.
 --     placed          the codels of a way are in the grid
 --     tries           one state is settled
---     several-none, several-more
+--     several_none, several_more
 -- Assumes nothing.
 use mathlib.Core.Path.{◌≡◌, refl, ap, ◌∙◌}
 use mathlib.Core.Logic.{◌≢◌, by_cases}

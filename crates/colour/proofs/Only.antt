@@ -1,9 +1,9 @@
 -- Two outcomes that a contract allows for one input are equal, answer and lent list, for each public function:
---     classify                                       classify-only
---     check                                          check-only
---     in_numbers, placeless                          told-only
---     label                                          label-only
---     pair_table                                     pair-table-only
+--     classify                                       classify_only
+--     check                                          check_only
+--     in_numbers, placeless                          told_only
+--     label                                          label_only
+--     pair_table                                     pair_table_only
 --     found_at, colour_under, decode, decode_in,
 --     no_setting, refuses, substitute                `equation_only` of base's proofs/Only.antt
 -- Assumes nothing.

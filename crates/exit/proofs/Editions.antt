@@ -1,11 +1,11 @@
 -- The slides and the attempts of the two editions, one beside the other (rules 5.4, 16.8).
---     slide-total       every slide from a codel of the grid ends, in both editions
---     lost-exactly      in edition 2 a slide is lost exactly where no landing comes, however long it goes on
---     lands-both        where edition 1's slide lands, edition 2's lands at the same codel in the same state
---     lost-then-long    a slide that is lost in edition 1 and lands in edition 2 has turned eight times or more
---     attempt-total     every attempt from a codel of the grid comes to something, in both editions
---     ways-beside       in edition 2 to the same as in edition 1, but for such slides
---     opens-both        what is open in edition 1 is open in edition 2, and leads to the same
+--     slide_total       every slide from a codel of the grid ends, in both editions
+--     lost_exactly      in edition 2 a slide is lost exactly where no landing comes, however long it goes on
+--     lands_both        where edition 1's slide lands, edition 2's lands at the same codel in the same state
+--     lost_then_long    a slide that is lost in edition 1 and lands in edition 2 has turned eight times or more
+--     attempt_total     every attempt from a codel of the grid comes to something, in both editions
+--     ways_beside       in edition 2 to the same as in edition 1, but for such slides
+--     opens_both        what is open in edition 1 is open in edition 2, and leads to the same
 -- Assumes nothing.
 use mathlib.Core.Path.{◌≡◌, refl, subst}
 use mathlib.Core.Bool.{Bool, true, false}

@@ -1,5 +1,5 @@
 -- A slide lands or it does not, whatever rule watches it, since a codel with a dp decides where it goes on.
---     lands-back    a landing by any rule is one of edition 2, by the same trail
+--     lands_back    a landing by any rule is one of edition 2, by the same trail
 -- Assumes nothing.
 use mathlib.Core.Path.{◌≡◌, refl, subst}
 use mathlib.Core.Bool.{Bool, true, false, ◌||◌}

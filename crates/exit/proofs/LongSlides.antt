@@ -1,8 +1,8 @@
 -- Long slides by their trail, on small pictures (rules 5.4, 16.8). Red is 6, black 18, white 19; a state is written by its number.
---     later-back       a slide of edition 2 that comes back to another station than its first
+--     later_back       a slide of edition 2 that comes back to another station than its first
 --     first_back       one that comes back to its first
---     crossing-lost, crossing-lands    the smallest picture, red first, whose run takes a slide of edition 2 that edition 1 loses
---     spiral-lost, spiral-lands        the white spiral of nine right turns
+--     crossing_lost, crossing_lands    the smallest picture, red first, whose run takes a slide of edition 2 that edition 1 loses
+--     spiral_lost, spiral_lands        the white spiral of nine right turns
 -- Assumes nothing.
 use mathlib.Core.Path.{refl}
 use mathlib.Core.List.{[], ◌∷◌}

@@ -1,10 +1,10 @@
 -- What an attempt of a region comes to is settled, and where it is open it leads to a coloured codel.
---     same-codel, same_way    one codel to leave by, and one way
---     opens-only              one region, one state and one instruction
---     open-unstuck            an open attempt is no lost slide
---     rust-unstuck            in edition 1 nothing is stuck
---     closed-shut             what is shut ahead is passed over in both editions
---     astray-shut             a lost slide is passed over in edition 1
+--     same_codel, same_way    one codel to leave by, and one way
+--     opens_only              one region, one state and one instruction
+--     open_unstuck            an open attempt is no lost slide
+--     rust_unstuck            in edition 1 nothing is stuck
+--     closed_shut             what is shut ahead is passed over in both editions
+--     astray_shut             a lost slide is passed over in edition 1
 --     reached                 the codel that an open attempt leads to
 -- Assumes nothing.
 use mathlib.Core.Path.{◌≡◌, refl, sym, ap, ap₂, subst}

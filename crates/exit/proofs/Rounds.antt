@@ -1,8 +1,8 @@
 -- The stations of a slide by their number, and the loop that a lost slide of edition 2 runs into.
---     lost-soonest    a slide is lost at the first station that comes again
---     lost-rounds     the stations from which a lost slide looks ahead are the way to the loop and the loop
+--     lost_soonest    a slide is lost at the first station that comes again
+--     lost_rounds     the stations from which a lost slide looks ahead are the way to the loop and the loop
 --     rounds          from every station of the loop on it goes round
---     lands-after     what lands in k moves and turns lands from its n-th station in n less
+--     lands_after     what lands in k moves and turns lands from its n-th station in n less
 -- Assumes nothing.
 use mathlib.Core.Path.{◌≡◌, refl, sym, ap, ◌∙◌}
 use mathlib.Core.Bool.{Bool, true, false, ◌||◌}

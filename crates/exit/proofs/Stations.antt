@@ -1,7 +1,7 @@
 -- A grid has four stations a codel, so a trail on which none comes twice is no longer than that: edition 2's slide ends.
---     page-slide-total    every slide from a codel of the grid ends
---     page-slide-short    within four looks for each codel of the picture
---     no-landing-lost     where no landing comes, it is lost
+--     page_slide_total    every slide from a codel of the grid ends
+--     page_slide_short    within four looks for each codel of the picture
+--     no_landing_lost     where no landing comes, it is lost
 -- Assumes nothing.
 use mathlib.Core.Path.{◌≡◌, refl, sym, ◌∙◌}
 use mathlib.Core.Bool.{Bool, true, false, cond}

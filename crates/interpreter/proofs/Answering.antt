@@ -1,11 +1,11 @@
 -- A call's answer, by whether it is refused.
---     answer-unknown, answer-wrong, answer-right, test-call    by the tests of the edition and of the table
---     run-refuses, run-finishes    what `run` answers and leaves is its outcome
---     record-refuses, record-finishes, recorded    the same of `run_history`
+--     answer_unknown, answer_wrong, answer_right, test_call    by the tests of the edition and of the table
+--     run_refuses, run_finishes    what `run` answers and leaves is its outcome
+--     record_refuses, record_finishes, recorded    the same of `run_history`
 --     refuses, finishes            and the other way round: what its outcome says
---     status-some                  no status is 0
+--     status_some                  no status is 0
 --     result-cells                 a result has as many numbers as its cells say
---     forever-refuses, forever-is  the answer of `determine_runs_forever`
+--     forever_refuses, forever_is  the answer of `determine_runs_forever`
 -- Assumes nothing.
 use mathlib.Core.Path.{◌≡◌, refl, sym, ap, ap₂, ◌∙◌}
 use mathlib.Core.Bool.{Bool, true, false, cond}

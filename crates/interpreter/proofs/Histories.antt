@@ -1,16 +1,16 @@
 -- The history of a run.
---     run-history      a run comes to its end by a list of exits that is as long as the steps made
---     history-only     so many exits from one place are one list, and lead to one place
---     histories-same   a run has one history
---     history-more     one step more
---     history-skips    of each reason as many number lines are counted as its steps skipped for it
---     run-few          and all in all no more than steps were made
---     step-judged, run-judged    reading stands where it may after a step, and after a run (rule 16.4)
---     bad-input-first  a run stops for BadInput only at the first read of a line
---     history-ends     where they lead is the last of the regions entered
---     never-max        a step never halts with MaxSteps
---     at-limit         MaxSteps comes exactly at the limit
---     run-limit        what is given as the limit is not looked at on the way
+--     run_history      a run comes to its end by a list of exits that is as long as the steps made
+--     history_only     so many exits from one place are one list, and lead to one place
+--     histories_same   a run has one history
+--     history_more     one step more
+--     history_skips    of each reason as many number lines are counted as its steps skipped for it
+--     run_few          and all in all no more than steps were made
+--     step_judged, run_judged    reading stands where it may after a step, and after a run (rule 16.4)
+--     bad_input_first  a run stops for BadInput only at the first read of a line
+--     history_ends     where they lead is the last of the regions entered
+--     never_max        a step never halts with MaxSteps
+--     at_limit         MaxSteps comes exactly at the limit
+--     run_limit        what is given as the limit is not looked at on the way
 -- Assumes nothing.
 use mathlib.Core.Path.{◌≡◌, refl, sym, ap, subst, ◌∙◌}
 use mathlib.Core.Bool.{Bool, true, false, cond}

@@ -1,15 +1,15 @@
 -- Two outcomes that a contract allows for one input are equal, answer and every lent list, for each public function:
 --     run                       run_only
---     run_history               recorded-only
---     resume, step              resume-only, step-only
---     run_observed              run-observed-only
---     determine_runs_forever    forever-only
+--     run_history               recorded_only
+--     resume, step              resume_only, step_only
+--     run_observed              run_observed_only
+--     determine_runs_forever    forever_only
 --     valid                     `equation_only` of base's proofs/Only.antt
 -- and what the answers say:
---     run-refusal               15 exactly where the edition is unknown, else 10 exactly where the table is not valid, and then
+--     run_refusal               15 exactly where the edition is unknown, else 10 exactly where the table is not valid, and then
 --                               nothing changes; `recorded_refused`: nor do the cells for exits
---     recorded-exits            the cells hold the exits in their order, as far as there are exits and cells, and past them what they held
---     forever-answer            which of its three answers `determine_runs_forever` gives
+--     recorded_exits            the cells hold the exits in their order, as far as there are exits and cells, and past them what they held
+--     forever_answer            which of its three answers `determine_runs_forever` gives
 -- Assumes nothing.
 use mathlib.Core.Path.{◌≡◌, refl, sym, ap, ◌∙◌}
 use mathlib.Core.Bool.{Bool, true, false, not, cond}

@@ -1,9 +1,9 @@
 -- A larger limit, and a run in two parts.
---     larger-limit            a larger limit tells nothing different of a run that stopped otherwise;
---     larger-limit-outcome    the same of a call, answer and every lent cell
+--     larger_limit            a larger limit tells nothing different of a run that stopped otherwise;
+--     larger_limit_outcome    the same of a call, answer and every lent cell
 --     run_on                  a run of a + b steps is a run of a steps and, where that came to MaxSteps, of b steps from there
 --     resumes                 a run to the limit a that came to MaxSteps, resumed to the limit a + b, is the run to a + b;
---     resume-run, resume-on   the same of a call of `run` or `resume`, and a call of `resume`
+--     resume_run, resume_on   the same of a call of `run` or `resume`, and a call of `resume`
 -- Assumes nothing.
 use mathlib.Core.Path.{subst, ◌≡◌, refl, sym, ap, ◌∙◌}
 use mathlib.Core.List.{List}

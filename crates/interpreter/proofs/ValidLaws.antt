@@ -1,6 +1,6 @@
 -- Laws of `any` and `every`, and what a table that is not refused may be relied on for.
---     lost-passes     the number of a lost slide passes in edition 2, however many regions there are (rules 12.2, 16.5)
---     lost-refused    in edition 1 a table is refused that has it in one of its 8n cells, a node's or not
+--     lost_passes     the number of a lost slide passes in edition 2, however many regions there are (rules 12.2, 16.5)
+--     lost_refused    in edition 1 a table is refused that has it in one of its 8n cells, a node's or not
 -- Assumes nothing.
 use mathlib.Core.Path.{◌≡◌, refl, sym, ap, ◌∙◌}
 use mathlib.Core.Bool.{Bool, true, false, ◌&&◌, ◌||◌}

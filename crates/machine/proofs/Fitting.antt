@@ -1,9 +1,9 @@
 -- What a step comes to that is made to fit its room.
---     fit-cases     it is kept, or it stops as bad input or for room, and for no other reason;
---     fit-kept      a step that is kept did what its instruction does;
---     fit-stops     the stops of one that is not
---     fit-bad       BadInput comes of its line alone
---     exec-limit    an instruction does not look at the limit
+--     fit_cases     it is kept, or it stops as bad input or for room, and for no other reason;
+--     fit_kept      a step that is kept did what its instruction does;
+--     fit_stops     the stops of one that is not
+--     fit_bad       BadInput comes of its line alone
+--     exec_limit    an instruction does not look at the limit
 -- Assumes nothing.
 use mathlib.Core.Path.{◌≡◌, refl, subst}
 use mathlib.Core.Bool.{Bool, true, false, cond}

@@ -1,6 +1,6 @@
 -- Where reading stands after an instruction (rule 16.4).
---     exec-judged       where it may
---     exec-bad-first    a line that is not UTF-8 is met at its first read
+--     exec_judged       where it may
+--     exec_bad_first    a line that is not UTF-8 is met at its first read
 -- Assumes nothing.
 use mathlib.Core.Path.{◌≡◌, subst}
 use mathlib.Core.Bool.{Bool, true, false, cond}

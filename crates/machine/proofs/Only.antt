@@ -1,6 +1,6 @@
 -- Two outcomes that a contract allows for one input are equal, answer and cells, for each public function:
---     exec                     execs-only
---     int_out, char_out        puts-only
+--     exec                     execs_only
+--     int_out, char_out        puts_only
 --     op_numbered, at_pointers    `equation_only` of base's proofs/Only.antt
 -- A call leaves the length of a lent slice as it is. Assumes nothing.
 use mathlib.Core.Path.{◌≡◌, ◌∙◌, sym, ap, ap₂, refl}

@@ -1,10 +1,10 @@
 -- The counts of skipped number lines after an instruction.
---     exec-counts      each is what it was, and one more where the instruction skipped a line for its reason
---     exec-total       their sum grows by at most one
---     times-append     reasons counted over two lists
---     skipped-means    a line that is skipped for a reason means it
+--     exec_counts      each is what it was, and one more where the instruction skipped a line for its reason
+--     exec_total       their sum grows by at most one
+--     times_append     reasons counted over two lists
+--     skipped_means    a line that is skipped for a reason means it
 --     range_same       the range of a number line is that of the values (rule 9.10)
---     skipped-same     which line is skipped does not depend on the pointers
+--     skipped_same     which line is skipped does not depend on the pointers
 -- Assumes nothing.
 use mathlib.Core.Path.{◌≡◌, refl, ap, subst, ◌∙◌}
 use mathlib.Core.Bool.{Bool, true, false, cond}

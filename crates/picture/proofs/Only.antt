@@ -1,6 +1,6 @@
 -- Two outcomes that a contract allows for one input are equal, for each public function:
---     PietSource::new                                                   source-only
---     PietSource::dimensions                                            sides-only
+--     PietSource::new                                                   source_only
+--     PietSource::dimensions                                            sides_only
 --     PietSource::get, get_at, read_pixel, shape_of, colour_at          `equation_only` of base's proofs/Only.antt
 -- Assumes nothing.
 use mathlib.Core.Path.{◌≡◌, ◌∙◌, sym}

@@ -1,10 +1,10 @@
 -- Demand 3, from what building and running promise: a run of what was built from a picture is not refused, and it follows
 -- the picture.
---     picture-follows    of a call of `run`
---     picture-history    the exits that it takes, read as moves, are those of the picture, and so are the regions that it enters
---     picture-moves      and those that `run_history` keeps are the moves, as far as there are cells
---     picture-visits     and what `run_visits` counts is how often the moves enter each region
---     picture-resumed    of a call of `run` that came to MaxSteps, and a call of `resume` to a larger limit
+--     picture_follows    of a call of `run`
+--     picture_history    the exits that it takes, read as moves, are those of the picture, and so are the regions that it enters
+--     picture_moves      and those that `run_history` keeps are the moves, as far as there are cells
+--     picture_visits     and what `run_visits` counts is how often the moves enter each region
+--     picture_resumed    of a call of `run` that came to MaxSteps, and a call of `resume` to a larger limit
 -- Assumes nothing.
 use mathlib.Core.Path.{◌≡◌, refl, sym, ap, ◌∙◌}
 use mathlib.Core.Bool.{true, false, true≢false}

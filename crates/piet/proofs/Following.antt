@@ -1,11 +1,11 @@
 -- Demand 3: the run of a table built from a picture follows the picture.
---     step-moves, step-walks    a step is a move of the picture, and walks on
---     history-walks    the exits that a run takes are, read as moves, a walk of the picture
---     follows-from     what is left of a run, from where it stands after a history, follows the picture
+--     step_moves, step_walks    a step is a move of the picture, and walks on
+--     history_walks    the exits that a run takes are, read as moves, a walk of the picture
+--     follows_from     what is left of a run, from where it stands after a history, follows the picture
 --     follows          and so does the run from the start
---     follows-few      no more number lines are skipped than moves are made
---     onto-length, onto-entered    exits, read as moves, are as many, and enter the regions that the exits lead to
---     onto-first       the first of them are all but the latest moves
+--     follows_few      no more number lines are skipped than moves are made
+--     onto_length, onto_entered    exits, read as moves, are as many, and enter the regions that the exits lead to
+--     onto_first       the first of them are all but the latest moves
 -- Assumes nothing.
 use mathlib.Core.Path.{◌≡◌, refl, sym, ap, subst, ◌∙◌}
 use mathlib.Core.Bool.{true, false, true≢false}

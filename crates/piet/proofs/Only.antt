@@ -1,6 +1,6 @@
 -- The contract of `run_picture` settles its answer and every lent list:
---     run-picture-only       two outcomes that it allows for one input are one
---     run-picture-refusal    it is refused exactly as the table of refusals says, and then nothing changes
+--     run_picture_only       two outcomes that it allows for one input are one
+--     run_picture_refusal    it is refused exactly as the table of refusals says, and then nothing changes
 -- Assumes nothing.
 use mathlib.Core.Path.{◌≡◌, refl, sym, ap, ap₂, ◌∙◌}
 use mathlib.Core.List.{List, [], ◌∷◌}

@@ -1,10 +1,10 @@
 -- The rules of the public page that edition 1 breaks and edition 2 keeps (docs/DIFFERENCES.md), beside those that hold in both.
---     page-divide-by-zero    divide and mod by zero are ignored (rule 14.11)
---     page-mod-sign          mod is what division rounded down leaves, and has the sign of the top (rule 14.11)
---     page-roll-bad-depth    a roll to a negative depth, or to one above the values there are, is ignored (rule 14.14)
---     page-char-in           in (char) reads one character, and the next read goes on behind it (rule 14.15)
---     page-lost-slide        a slide without a way out ends the program (rule 14.8)
---     page-none-past         and no move is made past it
+--     page_divide_by_zero    divide and mod by zero are ignored (rule 14.11)
+--     page_mod_sign          mod is what division rounded down leaves, and has the sign of the top (rule 14.11)
+--     page_roll_bad_depth    a roll to a negative depth, or to one above the values there are, is ignored (rule 14.14)
+--     page_char_in           in (char) reads one character, and the next read goes on behind it (rule 14.15)
+--     page_lost_slide        a slide without a way out ends the program (rule 14.8)
+--     page_none_past         and no move is made past it
 -- Assumes nothing.
 use mathlib.Core.Path.{◌≡◌, refl, sym, ap, subst, ◌∙◌}
 use mathlib.Core.Bool.{false}

@@ -1,6 +1,6 @@
 -- A region is filled from its first codel, by a queue of the codels whose neighbours are still to be visited.
 --     fill_start    the seed alone is numbered and queued
---     fill-turn     the codel at the queue's head is expanded
+--     fill_turn     the codel at the queue's head is expanded
 --     fill_end      the queue is empty: the region is numbered
 -- Assumes nothing.
 use mathlib.Core.Path.{◌≡◌, refl, sym, ap, ◌∙◌, subst}

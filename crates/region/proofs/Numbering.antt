@@ -1,7 +1,7 @@
 -- The regions are numbered one after the other, by first codel.
 --     part_none      no region is numbered
---     part-over      a codel that has a number is passed
---     part-whole     every codel has been passed: the map is the regions'
+--     part_over      a codel that has a number is passed
+--     part_whole     every codel has been passed: the map is the regions'
 -- Assumes nothing.
 use mathlib.Core.Path.{◌≡◌, refl, sym, ap, ◌∙◌}
 use mathlib.Core.Logic.{◌≢◌, by_cases}

@@ -1,6 +1,6 @@
 -- One codel's neighbours are numbered and queued, way by way.
 --     spread_none    before the first way
---     spread-more    one way more, by a visit of the codel that way
+--     spread_more    one way more, by a visit of the codel that way
 -- Assumes nothing.
 use mathlib.Core.Path.{◌≡◌, refl, sym, ap, ◌∙◌, subst}
 use mathlib.Core.Logic.{◌≢◌, ◌⊎◌, inl, inr, ⊎_elim, by_cases}

@@ -1,7 +1,7 @@
 -- The regions' rows, as the codels are counted one after the other.
---     counting-none     no codel is counted
+--     counting_none     no codel is counted
 --     counting_more     one codel more; `note_needs`: what `note` requires for it
---     counting-whole    all codels are counted
+--     counting_whole    all codels are counted
 -- Assumes nothing.
 use mathlib.Core.Path.{◌≡◌, refl, sym, ap, subst, ◌∙◌}
 use mathlib.Core.Logic.{◌≢◌, ◌⊎◌, inl, inr, ⊎_elim, by_cases}

@@ -1,11 +1,11 @@
 -- What one Roll costs (rule 9.11): its exchanges write each of the cells that turn at most twice and no other cell, whatever a is, and what
 -- `roll` leaves in the cells is what its exchanges make of them once those of a and n are cleared; at a bad depth the cells are in
 -- edition 2 as they were.
---     roll-twice, roll-elsewhere    how often a cell is written
---     roll-few                      how many writes there are in all
+--     roll_twice, roll_elsewhere    how often a cell is written
+--     roll_few                      how many writes there are in all
 --     unwritten                     what is not counted as written keeps its value
---     roll-exchanged                what the contract of `roll` settles is what they make
---     roll-untouched                at a bad depth in edition 2 it is what was there
+--     roll_exchanged                what the contract of `roll` settles is what they make
+--     roll_untouched                at a bad depth in edition 2 it is what was there
 -- Assumes nothing.
 use mathlib.Core.Path.{◌≡◌, refl, ap, ◌∙◌}
 use mathlib.Core.List.{List, [], ◌∷◌, ◌++◌}

@@ -1,6 +1,6 @@
 -- Two outcomes that a contract allows for one input are equal, answer and cells, for each public function:
---     pop, pair, not, roll    does-only
---     grow, double            grows-only
+--     pop, pair, not, roll    does_only
+--     grow, double            grows_only
 -- A call leaves the length of a lent slice as it is. Assumes nothing.
 use mathlib.Core.Path.{◌≡◌, ◌∙◌, sym, ap, refl}
 use mathlib.Core.List.{List}

@@ -1,6 +1,7 @@
 // Reads from a reader whose calls fail and writes to a writer whose calls fail, as those of a closed standard input do, and
-// prints what came of it: a call that failed is no end of an input, and nothing was written. No contract says what a call of
-// the system answered, so that a loop that makes up an end is proved; here it prints another text than `stdout`.
+// prints what came of it: a call that failed is no end of an input, and nothing was written. A program's own reader and writer
+// tell nothing of their bytes, so that no contract of the run program's says so; a loop that made up an end would print another
+// text than `stdout` here.
 #![tactic(auto)]
 
 use std::io;

@@ -1,9 +1,9 @@
 -- Which cell is whose: a cell of the rows is one field of one region, a cell of the exits one state of one region. What
 -- speaks of all cells goes through these laws, so that the layout is known here alone.
---     row_in, row-past, ..             which cells are of the first n regions
---     row_apart, exit-apart            two fields, or two exits, share no cell
---     each-row-cell, each-exit-cell    every cell is one of these
---     same_rows, same-exits            two lists with the same rows, or the same exits, are equal
+--     row_in, row_past, ..             which cells are of the first n regions
+--     row_apart, exit_apart            two fields, or two exits, share no cell
+--     each_row_cell, each_exit_cell    every cell is one of these
+--     same_rows, same_exits            two lists with the same rows, or the same exits, are equal
 -- Assumes nothing.
 use mathlib.Core.Path.{◌≡◌, refl, sym, ap, subst, ◌∙◌}
 use mathlib.Core.List.{List}

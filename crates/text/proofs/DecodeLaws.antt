@@ -2,10 +2,10 @@
 --     One, Two, Three, Four    a character of so many bytes stands at a place: the bounds of the code point and the bytes there
 --     stands                   each character that stands at a place is one of them
 --     never1, is2, is3, is4    the first byte says which
---     read1 .. read4, no-char-at       what `Reads` asks, from the numbers
---     carries, no-tail         what `TailAt` says, by the answer
+--     read1 .. read4, no_char_at       what `Reads` asks, from the numbers
+--     carries, no_tail         what `TailAt` says, by the answer
 --     Gathers                  the bits of the first byte and of some continuation bytes are a number
---     tail-needed, same_number, reads-long, no-scalar      a character of more bytes than one, by what `FirstByte` says of its first
+--     tail_needed, same_number, reads_long, no_scalar      a character of more bytes than one, by what `FirstByte` says of its first
 -- Assumes nothing.
 use Prim.Native.Nat.{ℕ, zero, suc, ◌+◌, ◌-◌, ◌*◌, ◌/◌, ◌<◌, ◌≤◌}
 use mathlib.Core.Path.{◌≡◌, refl, sym, ap, ◌∙◌, subst}

@@ -1,7 +1,7 @@
 -- UTF-8 is read exactly as it is written, over the code point and over a text.
---     char-complete, char-sound    where the bytes of a scalar stand it is read; what is read are the bytes of a scalar
---     text-complete, text-sound    the bytes of scalars are read as them; what is read has those bytes
---     text-unique                  two texts with the same bytes are the same
+--     char_complete, char_sound    where the bytes of a scalar stand it is read; what is read are the bytes of a scalar
+--     text_complete, text_sound    the bytes of scalars are read as them; what is read has those bytes
+--     text_unique                  two texts with the same bytes are the same
 -- Assumes nothing.
 use Prim.Native.Nat.{ℕ, ◌+◌, ◌-◌}
 use mathlib.Core.Path.{◌≡◌, refl, ap, ◌∙◌}

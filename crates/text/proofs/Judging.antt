@@ -1,9 +1,9 @@
 -- Where reading may stand (`Judged`), and that an input instruction leaves it there.
---     within-at                  whether a place that is not the first lies within a line
---     takes-within               within a line that is UTF-8 the character that stands there is what CharIn takes
---     never-bad                  and one stands there
---     judged-start               a run may start
---     int-judged, char-judged    after IntIn, and after CharIn in its edition; and BadInput comes only where a line begins
+--     within_at                  whether a place that is not the first lies within a line
+--     takes_within               within a line that is UTF-8 the character that stands there is what CharIn takes
+--     never_bad                  and one stands there
+--     judged_start               a run may start
+--     int_judged, char_judged    after IntIn, and after CharIn in its edition; and BadInput comes only where a line begins
 -- Assumes nothing.
 use Prim.Native.Nat.{ℕ, zero, suc, ◌+◌, ◌-◌, ◌<◌}
 use mathlib.Core.Path.{◌≡◌, refl, sym, ap, ◌∙◌, subst}

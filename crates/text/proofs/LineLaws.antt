@@ -1,9 +1,9 @@
 -- The length of the first line, byte by byte, and how a line lies in the input.
---     line-none, line-here, line-more      by the byte at a place
---     line-some                            a line that begins within the input has a byte
---     line-within, line-part               a line that begins within the input ends within it, and is a part of it
---     line-size                            a line has as many bytes as it is long
---     line-rest                            from a place within a line, the line is the rest of it
+--     line_none, line_here, line_more      by the byte at a place
+--     line_some                            a line that begins within the input has a byte
+--     line_within, line_part               a line that begins within the input ends within it, and is a part of it
+--     line_size                            a line has as many bytes as it is long
+--     line_rest                            from a place within a line, the line is the rest of it
 -- Assumes nothing.
 use Prim.Native.Nat.{ℕ, zero, suc, ◌+◌, ◌-◌, ◌<◌, ◌≤◌}
 use mathlib.Core.Path.{◌≡◌, refl, ap}

@@ -1,10 +1,10 @@
 -- A line that is UTF-8 is one of five things to IntIn, a number or one of the four reasons to skip it (rules 10.3, 10.8), and
 -- `int_of` tells which.
 --     means                each line is the one of the five that `int_of` tells
---     means-only           no line is two of them
---     says-only            a text says one number
+--     means_only           no line is two of them
+--     says_only            a text says one number
 --     nothing_left         a line has no characters exactly where no byte is left
---     skip-means           where a line is skipped for a reason, it is one that means it
+--     skip_means           where a line is skipped for a reason, it is one that means it
 -- Assumes nothing.
 use Prim.Native.Nat.{ℕ, ◌≤◌}
 use mathlib.Core.Path.{◌≡◌, refl, sym, ap, ◌∙◌, subst}

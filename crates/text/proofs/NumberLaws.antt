@@ -1,15 +1,15 @@
 -- Numerals, digit by digit, and the numbers that they make.
---     no_bytes, no-digits                    what is no numeral
---     digits-not, digits-on, digits-both, digits-end    whether digits stand from a place on, by the byte there
---     value_on, value-end, value-le          their value after a number
---     too_large, is-magnitude                what `magnitude_of` then is
---     magnitude-is, magnitude-over           and what it says of the value
---     no-form, in-form                       what digits make with a sign, by their form
+--     no_bytes, no_digits                    what is no numeral
+--     digits_not, digits_on, digits_both, digits_end    whether digits stand from a place on, by the byte there
+--     value_on, value_end, value_le          their value after a number
+--     too_large, is_magnitude                what `magnitude_of` then is
+--     magnitude_is, magnitude_over           and what it says of the value
+--     no_form, in_form                       what digits make with a sign, by their form
 --     in-range, out_of_range                 and by the number that they say;
---     pos-in, pos-out, neg-in, neg-out       which is in range or not
---     minus_one, below-zero                  -1 - m, and -n, as the machine has them
---     number-none .. number-bare             a number by its first byte
---     read-back                              a number that is printed in decimal is read as itself
+--     pos_in, pos_out, neg_in, neg_out       which is in range or not
+--     minus_one, below_zero                  -1 - m, and -n, as the machine has them
+--     number_none .. number_bare             a number by its first byte
+--     read_back                              a number that is printed in decimal is read as itself
 -- Assumes nothing.
 use Prim.Native.Nat.{ℕ, zero, suc, ◌+◌, ◌*◌, ◌-◌, ◌^◌, ◌<◌, ◌≤◌}
 use mathlib.Core.Path.{◌≡◌, refl, sym, ap, ◌∙◌}

@@ -1,6 +1,6 @@
 -- What CharIn takes in edition 2, of a line or of what is left of one (rule 16.4), where its characters are c ∷ cs.
 --     one_char      c is pushed, and reading goes on after the bytes of c
---     rest-left     the next read sees the characters cs of the same line, where there are any
+--     rest_left     the next read sees the characters cs of the same line, where there are any
 --     line_taken    where there are none, reading goes on after the line
 -- Assumes nothing.
 use Prim.Native.Nat.{ℕ, ◌+◌, ◌<◌}

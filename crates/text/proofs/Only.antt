@@ -1,7 +1,7 @@
 -- Two outcomes that a contract allows for one input are equal, for each public function:
 --     decode             reads_only
---     trim               trims-only
---     int_in, char_in    takes-only
+--     trim               trims_only
+--     int_in, char_in    takes_only
 --     is_utf8            `decides_only` of base's proofs/Only.antt
 --     is_white, is_scalar, parse, line_end      `equation_only` there
 -- No public function but `char_in` has a `requires`, and none changes a lent byte. Assumes nothing.

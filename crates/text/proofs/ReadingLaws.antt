@@ -1,8 +1,8 @@
 -- The functions that compute agree with the relations.
---     reading-is                 the characters of UTF-8 are its reading
+--     reading_is                 the characters of UTF-8 are its reading
 --     same_self                  a list is the same as itself
---     valid-utf8, utf8-valid     `valid` is true exactly of bytes that some characters read
---     takes_of, takes-is         an input instruction takes `take_of`, and nothing else
+--     valid_utf8, utf8-valid     `valid` is true exactly of bytes that some characters read
+--     takes_of, takes_is         an input instruction takes `take_of`, and nothing else
 -- Assumes nothing.
 use Prim.Native.Nat.{ℕ, zero, suc, ◌<◌, ◌≤◌}
 use mathlib.Core.Path.{◌≡◌, refl, sym, ap, ap₂, ◌∙◌, subst}

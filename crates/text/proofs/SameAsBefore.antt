@@ -2,8 +2,8 @@
 -- an input instruction takes still meets it, the reason left out: the same lines give the same numbers (rule 10.3), are skipped and
 -- stop the run with BadInput, and the same bytes are consumed. Nor does edition 2 change edition 1 (rule 16.4): in it
 -- CharIn still takes the whole line.
---     same-as-before         IntIn
---     same-as-before-char    CharIn in edition 1
+--     same_as_before         IntIn
+--     same_as_before_char    CharIn in edition 1
 -- Assumes nothing.
 use Prim.Native.Nat.{ℕ, ◌-◌, ◌^◌, ◌<◌, ◌≤◌}
 use mathlib.Core.Path.{◌≡◌, refl, ap, ◌∙◌}

@@ -1,9 +1,9 @@
 -- White space at the ends of a text, character by character.
 --     FrontInv                 the white space before a place is at the front
---     front-more, front-stop, front-bad, front-end      a step of the walk from the front, and its ends
---     tails-more               a step back over a continuation byte
---     last-is                  the last character of a text begins at the last byte that is no continuation byte
---     back_more, back-stop, back-bad, back_end          a step of the walk from the back, and its ends
+--     front_more, front_stop, front_bad, front_end      a step of the walk from the front, and its ends
+--     tails_more               a step back over a continuation byte
+--     last_is                  the last character of a text begins at the last byte that is no continuation byte
+--     back_more, back_stop, back_bad, back_end          a step of the walk from the back, and its ends
 --     both_ends                the two walks trim a line
 -- Assumes nothing.
 use Prim.Native.Nat.{ℕ, zero, suc, ◌+◌, ◌-◌, ◌<◌, ◌≤◌}

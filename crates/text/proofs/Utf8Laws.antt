@@ -1,10 +1,10 @@
 -- What UTF-8 says of the numbers: the bytes of a code point are read back in one way.
---     scalar-bounds, bounds-scalar    a scalar by its bounds
+--     scalar_bounds, bounds_scalar    a scalar by its bounds
 --     Form, form                      which of the four forms the bytes of a code point have
---     back-encode, rest-encode        `back` and `rest` take the bytes of a code point back to it and to what follows
---     prefix-char, prefix-rest        two texts with the same bytes begin with the same character and go on with the same bytes
---     encodes-unique, utf8-unique     two texts with the same bytes are the same
---     head-is                         the first character of a text
+--     back_encode, rest_encode        `back` and `rest` take the bytes of a code point back to it and to what follows
+--     prefix_char, prefix_rest        two texts with the same bytes begin with the same character and go on with the same bytes
+--     encodes_unique, utf8-unique     two texts with the same bytes are the same
+--     head_is                         the first character of a text
 -- Assumes nothing.
 use Prim.Native.Nat.{ℕ, ◌+◌, ◌/◌, ◌<◌, ◌≤◌}
 use mathlib.Core.Path.{◌≡◌, refl, sym, ap, ap₂, ◌∙◌}

@@ -1,8 +1,8 @@
 -- UTF-8, character by character, as `Reads` finds it.
 --     is-char, else_tag, no_char   what `Reads` says of a character, by the answer
---     read-on, read-within     a character that was read ends after its beginning, and within the bytes
---     valid-more, valid-rest   bytes that begin with a character are UTF-8 exactly when the bytes after it are
---     valid-none, bad-never    no bytes are UTF-8; bytes that begin no character are not
+--     read_on, read_within     a character that was read ends after its beginning, and within the bytes
+--     valid_more, valid_rest   bytes that begin with a character are UTF-8 exactly when the bytes after it are
+--     valid_none, bad_never    no bytes are UTF-8; bytes that begin no character are not
 -- Assumes nothing.
 use Prim.Native.Nat.{ℕ, ◌+◌, ◌-◌, ◌<◌, ◌≤◌}
 use mathlib.Core.Path.{◌≡◌, refl, sym, ap, ◌∙◌, subst}

@@ -1,5 +1,5 @@
 -- A call's answer, by the first of its tests that refuses it.
---     test-call              which one that is, or none
+--     test_call              which one that is, or none
 --     refuses, finishes      what the call answers and leaves is its outcome
 --     refused, finished      and the other way round: what its outcome says
 -- Assumes nothing.

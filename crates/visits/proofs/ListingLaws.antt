@@ -1,7 +1,7 @@
 -- Laws of the list of the nodes that were never entered.
---     listed-rises, listed-node                        what it says: they rise, and each such node below n stands in it once
+--     listed_rises, listed_node                        what it says: they rise, and each such node below n stands in it once
 --     list_same, list_length                           only the counts below n matter; with its zeros it has n cells
---     none-listed, one-listed, not_listed, all_listed  it is written node after node, then the zeros
+--     none_listed, one_listed, not_listed, all_listed  it is written node after node, then the zeros
 -- Assumes nothing.
 use mathlib.Core.Path.{◌≡◌, refl, ap, ap₂, ◌∙◌}
 use mathlib.Core.Bool.{Bool, true, false, cond, ◌&&◌}

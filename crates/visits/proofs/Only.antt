@@ -1,13 +1,13 @@
 -- Two outcomes that the contract of `run_visits` allows for one input are equal, answer and every lent list:
---     visits-only       (of the inner functions `list_unvisited` has equations, and `count_visits` a history that is one)
+--     visits_only       (of the inner functions `list_unvisited` has equations, and `count_visits` a history that is one)
 -- and what they say:
---     visits-run        where it is not refused with 16 or 4, dropping the two slices gives the contract of `run`
---     visits-refusal    15, then 10, then 16, then 4, each exactly where it fits, and then nothing changes
---     visits-finished   an answer whose number is 0 is finished
---     visits-sum        the first n cells together are the steps and one more
---     visits-cells      each of them is how often its region stands in the history
---     start-unlisted    region 0 is not listed, so that a zero of the list is none of its nodes
---     cells-past        the cells of both slices past the first n are as they were
+--     visits_run        where it is not refused with 16 or 4, dropping the two slices gives the contract of `run`
+--     visits_refusal    15, then 10, then 16, then 4, each exactly where it fits, and then nothing changes
+--     visits_finished   an answer whose number is 0 is finished
+--     visits_sum        the first n cells together are the steps and one more
+--     visits_cells      each of them is how often its region stands in the history
+--     start_unlisted    region 0 is not listed, so that a zero of the list is none of its nodes
+--     cells_past        the cells of both slices past the first n are as they were
 -- Assumes nothing.
 use mathlib.Core.Path.{◌≡◌, refl, sym, ap, subst, ◌∙◌}
 use mathlib.Core.Bool.{Bool, true, false, cond, ◌&&◌}

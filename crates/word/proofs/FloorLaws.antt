@@ -1,7 +1,7 @@
 -- What division rounded down leaves of b (rule 16.3): for a above 0 the residue of b by a, for a below 0 the negation of -b's
 -- by -a. So it is 0, or of a's sign and nearer to 0 than a.
---     left-pos, left-neg, left-fits
---     remainder-pos    by a number above 0 both editions have the residue
+--     left_pos, left_neg, left_fits
+--     remainder_pos    by a number above 0 both editions have the residue
 -- Assumes nothing.
 use Rattle.std.proofs.Common.{◌≡◌, ℕ, zero, suc, ◌+◌, ◌-◌, ◌*◌, ◌/◌, ◌%◌, ◌^◌, ◌<◌, [], ◌∷◌, ℤ, pos, negsuc, ◌+ℤ◌, ◌-ℤ◌, ◌*ℤ◌, neg_ℤ, sym, refl, ap, ◌∙◌, mod-lt, mul_comm, div-add-mod', mul-suc, arith, w64, SFits, le-ltb, ne_eqb}
 use lib.IntN.{neg_ℤ-neg_ℤ, neg_ℤ-+ℤ}
