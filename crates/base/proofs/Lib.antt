@@ -2,6 +2,7 @@
 pub mod Only
 pub mod Clash
 pub mod Refusals
+pub mod RefusalLaws
 pub mod Tests
 pub mod CountingLaws
 pub mod Pigeonhole

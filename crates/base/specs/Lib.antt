@@ -1,4 +1,5 @@
 -- What every layer's contracts cite.
+pub mod Refusal
 pub mod Numbers
 pub mod Lent
 pub mod Counting

@@ -6,3 +6,4 @@ pub mod edition;
 pub mod fill;
 pub mod limits;
 pub mod put;
+pub mod refusal;
