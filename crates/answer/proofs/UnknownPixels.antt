@@ -4,8 +4,8 @@ use mathlib.Core.Bool.{false}
 use mathlib.Core.List.{[], ◌∷◌}
 use Prim.Native.Nat.{ℕ, ◌*◌, ◌<◌}
 use lib.ListN.{get_or}
+use Rattle.std.specs.Prelude.{Some, None}
 use Rattle.base.specs.Numbers.{numbers, first}
-use Rattle.colour.specs.declared.palette.Found.TheVariants.{Known, Unknown}
 use Rattle.colour.specs.Palette.{number_in, colour_of, pixels_of}
 use Rattle.colour.specs.Classify as classifying
 use Rattle.colour.proofs.SettingLaws.{all_known}
@@ -17,7 +17,7 @@ use Rattle.answer.proofs.Ending.{fresh, fresh_sized, same_refusal}
 
 -- every pixel of a job that is not refused is known
 pub all_known_run : (c : Content) → refusal_of c ≡ numbers 0 (0 ∷ 0 ∷ [])
-    → (i : ℕ) → i < c.height * c.width → (k : ℕ) × (get_or (classifying.found c.pixels) i Unknown ≡ Known k)
+    → (i : ℕ) → i < c.height * c.width → (k : ℕ) × (get_or (classifying.found c.pixels) i None ≡ Some k)
 all_known_run c h =
     all_known c.pixels c.height c.width 512 (0 ∷ 0 ∷ [])
     (sym (accepted (asked_of c) fresh 0 (0 ∷ 0 ∷ []) refl (sym (same_refusal c fresh_sized ∙ h))).classifies)

@@ -9,11 +9,11 @@ use mathlib.Core.Logic.{◌⊎◌, inl, inr}
 use Prim.Native.Nat.{ℕ, ◌<◌}
 use native.Mathlib.Omega.{arith}
 use lib.ListN.{length, get_or}
+use Rattle.std.specs.Prelude.{Option}
 use Rattle.base.specs.declared.edition.Edition.{Edition}
 use Rattle.flow.specs.Pointer.{Valid, state_number}
 use Rattle.flow.proofs.Order.{number_small}
 use Rattle.flow.specs.declared.PointerState.{PointerState}
-use Rattle.flow.specs.declared.Beyond.{Beyond}
 use Rattle.colour.specs.Decode.{decode_of}
 use Rattle.colour.specs.Instruction.{none}
 use Rattle.colour.specs.Palette.{black}
@@ -39,7 +39,7 @@ use Rattle.cfg.proofs.NodeLaws.{joined_colour}
 use Rattle.cfg.proofs.Leads.{opens_leads}
 
 -- a codel that is seen white is not black
-seen_white : {p : Picture} {x : Beyond} {a b : ℕ} → Sighted p x (White a b) → colour_at p a b ≡ black → ⊥
+seen_white : {p : Picture} {x : Option (ℕ × ℕ)} {a b : ℕ} → Sighted p x (White a b) → colour_at p a b ≡ black → ⊥
 seen_white (at_white h) e = omega arith
 
 -- q is the region of a codel that is not black

@@ -16,6 +16,7 @@ use mathlib.Core.Logic.{◌↔◌, ◌⊎◌, inl, inr}
 use Prim.Native.Nat.{ℕ, ◌/◌, ◌%◌, ◌<◌, ◌≤◌}
 use native.Mathlib.Omega.{arith}
 use lib.ListN.{length}
+use Rattle.std.specs.Prelude.{Some}
 use Rattle.base.specs.declared.edition.Edition.{Edition}
 use Rattle.base.specs.declared.edition.Edition.TheVariants.{Rust, Page}
 use Rattle.colour.specs.Instruction as instruction
@@ -28,11 +29,10 @@ use Rattle.region.specs.Grid.{grid_of}
 use Rattle.region.specs.Region.{IsMap}
 use Rattle.table.specs.Layout.{mark_of, exit_at, row_at}
 use Rattle.table.specs.ExitNumber.{exit_number, largest_exit, lost_slide}
-use Rattle.exit.specs.declared.slide.Slid.TheVariants.{Landed}
 use Rattle.exit.specs.declared.attempt.Way.{Way}
 use Rattle.exit.specs.declared.attempt.Way.TheVariants.{Step, Astray, Glide}
 use Rattle.exit.specs.Trail.{most_turns, turns_of, comes_back}
-use Rattle.exit.specs.Slide.{Ends}
+use Rattle.exit.specs.Slide.{landed, Ends}
 use Rattle.exit.specs.Attempt.{Attempt}
 use Rattle.exit.specs.Opens.{region_at, Tried, Opens, beside, across, Stuck}
 use Rattle.exit.proofs.Opening.{same_codel, rust_unstuck}
@@ -52,7 +52,7 @@ pub record Long (p : Picture) (map : List ℕ) (r : ℕ) (q : PointerState) : Ty
   pub state : PointerState
   pub lost : Tried Rust p map r q (Astray row col)
   pub lands : Tried Page p map r q (Glide row col to_row to-col state)
-  pub slide : Ends p comes_back row col q (Landed to_row to-col state)
+  pub slide : Ends p comes_back row col q (Some (landed to_row to-col state))
   pub turned : most_turns ≤ turns_of slide.trail
 
 -- the region where such a slide of a region that is found in edition 1 lands, and what edition 2 finds from there on
@@ -70,7 +70,7 @@ pub data Beside (p : Picture) (map : List ℕ) (r : ℕ) (q : PointerState) : �
 
 -- such a slide, from the attempts of the two editions
 abbrev long_of : {p : Picture} {map : List ℕ} {r x y a b : ℕ} {q u : PointerState} → Tried Rust p map r q (Astray x y) → Tried Page p map r q (Glide x y a b u)
-    → (d : Ends p comes_back x y q (Landed a b u)) → most_turns ≤ turns_of d.trail → Long p map r q
+    → (d : Ends p comes_back x y q (Some (landed a b u))) → most_turns ≤ turns_of d.trail → Long p map r q
 long_of {x = x} {y = y} {a = a} {b = b} {u = u} t t' d h =
     record { row = x; col = y; to_row = a; to-col = b; state = u; lost = t; lands = t'; slide = d; turned = h }
 

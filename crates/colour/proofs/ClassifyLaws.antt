@@ -5,7 +5,7 @@ use Prim.Native.Nat.{ℕ, zero, suc, ◌+◌, ◌*◌, ◌<◌, ◌≤◌}
 use native.Mathlib.Omega.{arith}
 use lib.ListN.{length, get_or, length-map}
 use borrow.Author.Tests.{eqb-true, ltb-false, not-false}
-use Rattle.colour.specs.declared.palette.Found.TheVariants.{Unknown}
+use Rattle.std.specs.Prelude.{None}
 use Rattle.colour.specs.Palette.{rgb, colour_of, pixels_of}
 use Rattle.base.specs.Limits.{wrong_side}
 use Rattle.colour.specs.Classify.{numbered, answer, refusals, found}
@@ -17,7 +17,7 @@ use Rattle.colour.specs.declared.classify.Classified.{Classified}
 use Rattle.colour.specs.declared.classify.Classified.TheVariants.{Done, Size, Setting, Bytes, Room, Pixel}
 
 pub found_at : (p : List ℕ) (i : ℕ) → 3 * i + 2 < length p
-    → get_or (found p) i Unknown ≡ colour_of (rgb (get_or p (3 * i) 0) (get_or p (3 * i + 1) 0) (get_or p (3 * i + 2) 0))
+    → get_or (found p) i None ≡ colour_of (rgb (get_or p (3 * i) 0) (get_or p (3 * i + 1) 0) (get_or p (3 * i + 2) 0))
 unfolding found pixels_of
 found_at [] i h = absurd (omega arith)
 found_at (r ∷ []) i h = absurd (omega arith)

@@ -2,7 +2,7 @@
 use mathlib.Core.Path.{◌≡◌, refl}
 use mathlib.Core.List.{List, [], ◌∷◌, map}
 use Prim.Native.Nat.{ℕ}
-use Rattle.colour.specs.declared.palette.Found.TheVariants.{Known, Unknown}
+use Rattle.std.specs.Prelude.{Some, None}
 use Rattle.colour.specs.Palette.{rgb, palette, colour_of, number_in, pixels_of}
 use Rattle.base.specs.Numbers.{numbers, first}
 use Rattle.colour.specs.Classify.{found, known_first, colour_under, colours_under, unknown_pixel, refusals, answer}
@@ -12,12 +12,12 @@ use Rattle.colour.specs.Label.{label_of, name, place}
 -- no two colours have the same bytes: each is found under its own number
 pub numbered :
     map colour_of palette
-    ≡ Known 0 ∷ Known 1 ∷ Known 2 ∷ Known 3 ∷ Known 4 ∷ Known 5 ∷ Known 6 ∷ Known 7 ∷ Known 8 ∷ Known 9 ∷ Known 10 ∷ Known 11 ∷ Known 12
-    ∷ Known 13 ∷ Known 14 ∷ Known 15 ∷ Known 16 ∷ Known 17 ∷ Known 18 ∷ Known 19 ∷ []
+    ≡ Some 0 ∷ Some 1 ∷ Some 2 ∷ Some 3 ∷ Some 4 ∷ Some 5 ∷ Some 6 ∷ Some 7 ∷ Some 8 ∷ Some 9 ∷ Some 10 ∷ Some 11 ∷ Some 12
+    ∷ Some 13 ∷ Some 14 ∷ Some 15 ∷ Some 16 ∷ Some 17 ∷ Some 18 ∷ Some 19 ∷ []
 unfolding colour_of number_in
 numbered = refl
 
-pub unknown : colour_of (rgb 0xC0 0xC0 0xC0) ≡ Unknown
+pub unknown : colour_of (rgb 0xC0 0xC0 0xC0) ≡ None
 unfolding colour_of number_in
 unknown = refl
 

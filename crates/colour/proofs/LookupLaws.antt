@@ -7,9 +7,8 @@ use native.Mathlib.Nat.{mod-lt}
 use native.Mathlib.Omega.{arith}
 use lib.ListN.{length, get_or, get_or-map}
 use lib.Dec.{eqb, ltb, T, eqb→eq, ltb→lt}
+use Rattle.std.specs.Prelude.{Option, Some, None}
 use Rattle.base.proofs.Table.{all_at}
-use Rattle.colour.specs.declared.palette.Found.{Found}
-use Rattle.colour.specs.declared.palette.Found.TheVariants.{Known, Unknown}
 use Rattle.colour.specs.Palette.{Rgb, rgb, same, palette, number_in, colour_of}
 use Rattle.colour.specs.Lookup.{joined_of, palette_rows, divisor, likely_rows}
 
@@ -55,22 +54,22 @@ joined_only (rgb r g b) (rgb r' g' b') h k e =
     let z : b ≡ b' = omega arith in
     λ i. rgb (x i) (y i) (z i)
 
-is_known : ℕ → Found → Bool
-is_known i (Known c) = eqb c i
-is_known i Unknown = false
+is_known : ℕ → Option ℕ → Bool
+is_known i (Some c) = eqb c i
+is_known i None = false
 
-known : (i : ℕ) (f : Found) → T (is_known i f) → f ≡ Known i
+known : (i : ℕ) (f : Option ℕ) → T (is_known i f) → f ≡ Some i
 unfolding is_known
-known i (Known c) h = ap Known (eqb→eq c i h)
-known i Unknown h = absurd h
+known i (Some c) h = ap Some (eqb→eq c i h)
+known i None h = absurd h
 
 -- no two rows are alike, so that three bytes that are a row have that row's number
-own_number : (i : ℕ) → i < 20 → colour_of (row_of i) ≡ Known i
+own_number : (i : ℕ) → i < 20 → colour_of (row_of i) ≡ Some i
 unfolding colour_of number_in is_known
 own_number i h = known i _ (all_at 20 (λ k. is_known k (colour_of (row_of k))) tt i h)
 
 -- three bytes that are in no row
-unlisted : (qs : List Rgb) (n : ℕ) (p : Rgb) → ((i : ℕ) → i < length qs → same (get_or qs i (rgb 0 0 0)) p ≡ false) → number_in qs n p ≡ Unknown
+unlisted : (qs : List Rgb) (n : ℕ) (p : Rgb) → ((i : ℕ) → i < length qs → same (get_or qs i (rgb 0 0 0)) p ≡ false) → number_in qs n p ≡ None
 unfolding number_in
 unlisted [] n p h = refl
 unlisted (q ∷ qs) n p h = rw (h 0 (omega arith)) (unlisted qs (suc n) p (λ i k. h (suc i) (omega arith)))
@@ -80,14 +79,14 @@ at_row i = get_or-map joined_of palette i (rgb 0 0 0)
 
 -- one comparison settles every pixel: three bytes that are their likely row have its number, and all others are unknown
 module _ (p : Rgb) (bytes : Small p) (n : ℕ) (joins : n ≡ joined_of p) where
-  pub likely_known : get_or palette_rows (get_or likely_rows (n % divisor) 0) 0 ≡ n → colour_of p ≡ Known (get_or likely_rows (n % divisor) 0)
+  pub likely_known : get_or palette_rows (get_or likely_rows (n % divisor) 0) 0 ≡ n → colour_of p ≡ Some (get_or likely_rows (n % divisor) 0)
   likely_known e =
       let i = get_or likely_rows (n % divisor) 0 in
       let h = row_small n in
       let s = small (row_of i) (all_at 20 (λ k. smallb (row_of k)) tt i h) in
       ap colour_of (sym (joined_only (row_of i) p s bytes (sym (at_row i) ∙ e ∙ joins))) ∙ own_number i h
 
-  pub likely_unknown : (get_or palette_rows (get_or likely_rows (n % divisor) 0) 0 ≡ n → ⊥) → colour_of p ≡ Unknown
+  pub likely_unknown : (get_or palette_rows (get_or likely_rows (n % divisor) 0) 0 ≡ n → ⊥) → colour_of p ≡ None
   unfolding colour_of
   likely_unknown d = unlisted palette 0 p (λ i h. differs i h (same (row_of i) p) refl)
     where

@@ -6,24 +6,23 @@ use Prim.Native.Nat.{ℕ, ◌*◌, ◌<◌, ◌≤◌}
 use native.Mathlib.Omega.{arith}
 use borrow.Author.Tests.{eqb-true, ltb-false}
 use lib.ListN.{get_or}
+use Rattle.std.specs.Prelude.{Option, Some, None}
 use Rattle.base.specs.Numbers.{Numbers, numbers, Row, row, first}
 use Rattle.base.proofs.Refusals.{refused, passed, another, holds, no_row}
 use Rattle.base.proofs.Tests.{and_both}
-use Rattle.colour.specs.declared.palette.Found.{Found}
-use Rattle.colour.specs.declared.palette.Found.TheVariants.{Known, Unknown}
 use Rattle.colour.specs.declared.classify.Classified.{Classified}
 use Rattle.colour.specs.Setting.{refusing, refuses}
 use Rattle.colour.specs.Classify.{found, known_first, colour_under, colours_under, unknown_pixel, refusals, answer, Outcome}
 use Rattle.colour.proofs.FirstUnknown.{known_before}
 
-default_colour : (f : Found) → colour_under 0 f ≡ colour_under 2 f
+default_colour : (f : Option ℕ) → colour_under 0 f ≡ colour_under 2 f
 unfolding colour_under
-default_colour (Known c) = refl
-default_colour Unknown = refl
+default_colour (Some c) = refl
+default_colour None = refl
 
 pub default_colours : (pixels : List ℕ) → colours_under pixels 0 ≡ colours_under pixels 2
 unfolding colours_under
-default_colours pixels = λ i. map (λ (f : Found). default_colour f i) (found pixels)
+default_colours pixels = λ i. map (λ (f : Option ℕ). default_colour f i) (found pixels)
 
 pub default_refusals : (pixels : List ℕ) (height width room : ℕ) → refusals pixels height width 0 room ≡ refusals pixels height width 2 room
 unfolding refusals
@@ -57,7 +56,7 @@ refused_under_1 pixels height width setting room v e =
 
 -- where classifying under 1 refuses nothing, every pixel is known
 pub all_known : (pixels : List ℕ) (height width room : ℕ) (v : List ℕ) → numbers 0 v ≡ answer pixels height width refusing room
-    → (i : ℕ) → i < height * width → (c : ℕ) × (get_or (found pixels) i Unknown ≡ Known c)
+    → (i : ℕ) → i < height * width → (c : ℕ) × (get_or (found pixels) i None ≡ Some c)
 unfolding answer refusals unknown_pixel
 all_known pixels height width room v e i h =
     let a = passed _ 0 _ v _ _ e in

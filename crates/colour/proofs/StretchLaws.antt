@@ -9,7 +9,7 @@ use native.Mathlib.Nat.{add-zero}
 use native.Mathlib.Omega.{arith}
 use lib.ListN.{length, get_or, take, drop, set, length-append, length-drop, length-map, get_or-append}
 use lib.Seq.{length-take-le, get_or-take}
-use Rattle.colour.specs.declared.palette.Found.TheVariants.{Unknown}
+use Rattle.std.specs.Prelude.{is_some, None}
 use Rattle.colour.specs.Classify.{found, known_first, colour_under}
 use Rattle.colour.specs.Stretch.{RepeatedBytes, Repeats}
 use Rattle.base.specs.Decides.{Decides}
@@ -58,7 +58,7 @@ module _ (p : List ℕ) (from to : ℕ) (r : Repeats p from to) (some : from < t
   not_first = let h = (r (3 * from) (omega arith) (omega arith)).0 in omega arith
 
   -- a pixel with the bytes of the one before it has its colour
-  same_colour : (i : ℕ) → from ≤ i → i < to → get_or (found p) i Unknown ≡ get_or (found p) (i - 1) Unknown
+  same_colour : (i : ℕ) → from ≤ i → i < to → get_or (found p) i None ≡ get_or (found p) (i - 1) None
   same_colour i h l =
       let a = r (3 * i) (omega arith) (omega arith) in
       let b = r (3 * i + 1) (omega arith) (omega arith) in
@@ -69,11 +69,11 @@ module _ (p : List ℕ) (from to : ℕ) (r : Repeats p from to) (some : from < t
       found_at p i (omega arith) ∙ rw (a.1, b.1, c.1, e₀, e₁, e₂) (sym (found_at p (i - 1) (omega arith)))
 
   -- and so all of them have the colour of the pixel before the first
-  one_colour : (m : ℕ) → from + m < to → get_or (found p) (from + m) Unknown ≡ get_or (found p) (from - 1) Unknown
+  one_colour : (m : ℕ) → from + m < to → get_or (found p) (from + m) None ≡ get_or (found p) (from - 1) None
   one_colour zero l = rw (add-zero from) (same_colour from (omega arith) (omega arith))
   one_colour (suc m) l =
       let e : from + suc m - 1 ≡ from + m = omega arith in
-      same_colour (from + suc m) (omega arith) l ∙ ap (λ (i : ℕ). get_or (found p) i Unknown) e ∙ one_colour m (omega arith)
+      same_colour (from + suc m) (omega arith) l ∙ ap (λ (i : ℕ). get_or (found p) i None) e ∙ one_colour m (omega arith)
 
   -- they are known where that one is
   pub known_through : from ≤ known_first (found p) → to ≤ known_first (found p)
@@ -83,7 +83,7 @@ module _ (p : List ℕ) (from to : ℕ) (r : Repeats p from to) (some : from < t
       go zero l = omega arith
       go (suc m) l =
           let k = known_before (found p) (from - 1) (omega (arith, not_first)) in
-          let s = goes_on (found p) (from + m) k.0 (one_colour m (omega arith) ∙ k.1) (go m (omega arith)) in
+          let s = goes_on (found p) (from + m) (ap is_some (one_colour m (omega arith) ∙ k.1)) (go m (omega arith)) in
           omega arith
 
   -- and its number, which was written before theirs, is theirs
@@ -105,6 +105,6 @@ module _ (p : List ℕ) (from to : ℕ) (r : Repeats p from to) (some : from < t
       let t : from + (to - from) ≡ to = omega arith in
       rw (v, e)
       (rw t at (written_through w l from (get_or w (from - 1) 0) (to - from) (omega arith) (omega arith) (λ m u.
-      map_at f fs (from - 1) Unknown 0 (omega arith)
+      map_at f fs (from - 1) None 0 (omega arith)
       ∙ ap f (sym (one_colour m (omega arith)))
-      ∙ sym (map_at f fs (from + m) Unknown 0 (omega arith)))))
+      ∙ sym (map_at f fs (from + m) None 0 (omega arith)))))

@@ -1,7 +1,5 @@
 -- Classifying: refusals 1, 3, 2, 4, 5 in this order (rule 12.3), and what is written (rules 1.2, 1.3). Assumes nothing.
-use Rattle.std.specs.Prelude.{◌≡◌, Bool, not, ◌&&◌, ◌||◌, List, [], ◌∷◌, map, ℕ, suc, ◌*◌, ◌/◌, ◌%◌, eqb, ltb, length}
-use Rattle.colour.specs.declared.palette.Found.{Found}
-use Rattle.colour.specs.declared.palette.Found.TheVariants.{Known, Unknown}
+use Rattle.std.specs.Prelude.{◌≡◌, Bool, not, ◌&&◌, ◌||◌, List, [], ◌∷◌, map, ℕ, suc, ◌*◌, ◌/◌, ◌%◌, eqb, ltb, length, Option, Some, None, unwrap_or}
 use Rattle.colour.specs.declared.classify.Classified.{Classified}
 use Rattle.colour.specs.declared.classify.Classified.TheVariants.{Done, Size, Setting, Bytes, Room, Pixel}
 use Rattle.base.specs.Numbers.{Numbers, numbers, Row, row, first, unless_refused}
@@ -20,17 +18,16 @@ numbered Room = numbers 4 (0 ∷ 0 ∷ [])
 numbered (Pixel r c) = numbers 5 (r ∷ c ∷ [])
 
 -- how many colours stand before the first that is unknown
-unfoldable pub known_first : List Found → ℕ
+unfoldable pub known_first : List (Option ℕ) → ℕ
 known_first [] = 0
-known_first (Known c ∷ fs) = suc (known_first fs)
-known_first (Unknown ∷ fs) = 0
+known_first (Some c ∷ fs) = suc (known_first fs)
+known_first (None ∷ fs) = 0
 
 -- the colour number of a pixel
-unfoldable pub colour_under : ℕ → Found → ℕ
-colour_under s (Known c) = c
-colour_under s Unknown = substitute s
+unfoldable pub colour_under : ℕ → Option ℕ → ℕ
+colour_under s f = unwrap_or f (substitute s)
 
-unfoldable pub found : List ℕ → List Found
+unfoldable pub found : List ℕ → List (Option ℕ)
 found p = map colour_of (pixels_of p)
 
 -- refusal 5 under a setting that refuses: the row and the column of the first unknown pixel, counted row by row

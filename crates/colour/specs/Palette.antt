@@ -1,7 +1,5 @@
 -- The twenty colours and their three bytes (`convert.rs`, the page's table), by number (rules 1.1, 14.1). Assumes nothing.
-use Rattle.std.specs.Prelude.{Bool, ◌&&◌, cond, List, [], ◌∷◌, ℕ, suc, eqb}
-use Rattle.colour.specs.declared.palette.Found.{Found}
-use Rattle.colour.specs.declared.palette.Found.TheVariants.{Known, Unknown}
+use Rattle.std.specs.Prelude.{Bool, ◌&&◌, cond, List, [], ◌∷◌, ℕ, suc, eqb, Option, Some, None}
 
 pub data Rgb : Type 0 where
   rgb : ℕ → ℕ → ℕ → Rgb
@@ -27,11 +25,11 @@ abbrev pub white : ℕ
 white = 19
 
 -- the place of p in a list of colours whose first has the number i
-unfoldable pub number_in : List Rgb → ℕ → Rgb → Found
-number_in [] i p = Unknown
-number_in (q ∷ qs) i p = cond (same q p) (Known i) (number_in qs (suc i) p)
+unfoldable pub number_in : List Rgb → ℕ → Rgb → Option ℕ
+number_in [] i p = None
+number_in (q ∷ qs) i p = cond (same q p) (Some i) (number_in qs (suc i) p)
 
-unfoldable pub colour_of : Rgb → Found
+unfoldable pub colour_of : Rgb → Option ℕ
 colour_of p = number_in palette 0 p
 
 -- the pixels of a list of bytes, three bytes a pixel

@@ -1,6 +1,5 @@
 // Classifying: pixels of three bytes to colour numbers.
-ghost use Rattle.std.specs.Prelude.{◌≡◌, ◌+◌, ◌*◌, ◌<◌, ◌≤◌, length, get_or, true, [], ◌∷◌};
-ghost use Rattle.colour.specs.declared.palette.Found.TheVariants.{Unknown};
+ghost use Rattle.std.specs.Prelude.{◌≡◌, ◌+◌, ◌*◌, ◌<◌, ◌≤◌, length, get_or, true, [], ◌∷◌, None};
 ghost use Rattle.base.specs.Lent.{lent};
 ghost use Rattle.base.specs.Numbers.{numbers, first};
 ghost use Rattle.colour.specs.Lookup.{palette_rows, likely_rows};
@@ -16,7 +15,7 @@ ghost use Rattle.colour.specs.Classify.{
 };
 
 use crate::lookup::{LIKELY, colour_of};
-use crate::palette::{Found, PALETTE};
+use crate::palette::PALETTE;
 use crate::setting::{no_setting, refuses, substitute};
 use crate::stretch::alike;
 use base::fill::fill_u8;
@@ -71,18 +70,18 @@ pub fn in_numbers(r: Classified) -> Told
 }
 
 // What the palette says of pixel i.
-fn found_in(palette: &[u32], likely: &[u8], pixels: &[u8], i: usize) -> Found
+fn found_in(palette: &[u32], likely: &[u8], pixels: &[u8], i: usize) -> Option<u8>
     requires { ((palette.now ≡ palette_rows) × (likely.now ≡ likely_rows)) × (3 * i + 2 < length pixels.now) }
-    ensures { result ≡ get_or (found pixels.now) i Unknown }
+    ensures { result ≡ get_or (found pixels.now) i None }
 {
     let at = 3 * i;
     colour_of(palette, likely, pixels[at], pixels[at + 1], pixels[at + 2])
 }
 
 // The same, of one pixel by itself.
-pub fn found_at(pixels: &[u8], i: usize) -> Found
+pub fn found_at(pixels: &[u8], i: usize) -> Option<u8>
     requires { 3 * i + 2 < length pixels.now }
-    ensures { result ≡ get_or (found pixels.now) i Unknown }
+    ensures { result ≡ get_or (found pixels.now) i None }
 {
     let palette = PALETTE;
     let likely = LIKELY;
@@ -100,8 +99,7 @@ fn known_first(pixels: &[u8], n: usize) -> usize
     while i < n {
         let end = alike(pixels, i, n);
         if end == i {
-            let f = found_in(&palette, &likely, pixels, i);
-            if let Found::Unknown = f {
+            if found_in(&palette, &likely, pixels, i).is_none() {
                 return i;
             }
             i += 1;
@@ -155,13 +153,11 @@ pub fn check(pixels: &[u8], height: usize, width: usize, setting: u8, room: usiz
 }
 
 // The colour number that a setting makes of what the palette says.
-pub fn colour_under(setting: u8, f: Found) -> u8
+#[tactic(auto, unfolding(crate::specs::Classify::colour_under))]
+pub fn colour_under(setting: u8, f: Option<u8>) -> u8
     ensures { result ≡ colour_under setting f }
 {
-    match f {
-        Found::Known(c) => c,
-        Found::Unknown => substitute(setting),
-    }
+    f.unwrap_or(substitute(setting))
 }
 
 // One colour for each of the n pixels.

@@ -3,6 +3,7 @@
 use mathlib.Core.Path.{refl}
 use mathlib.Core.List.{[], ◌∷◌}
 use Prim.Native.Nat.{ℕ}
+use Rattle.std.specs.Prelude.{None}
 use Rattle.base.specs.declared.edition.Edition.{Edition}
 use Rattle.base.specs.declared.edition.Edition.TheVariants.{Rust, Page}
 use Rattle.flow.specs.Pointer.{of_number}
@@ -11,7 +12,6 @@ use Rattle.flow.specs.Neighbour.{ahead_of}
 use Rattle.picture.specs.Picture.{Picture, picture}
 use Rattle.exit.specs.declared.attempt.Way.{Way}
 use Rattle.exit.specs.declared.attempt.Way.TheVariants.{Closed, Glide, Astray}
-use Rattle.exit.specs.declared.slide.Slid.TheVariants.{Lost}
 use Rattle.exit.specs.Trail.{turns_of, eighth_turn, occurs, comes_back, lost_by}
 use Rattle.exit.specs.Slide.{seen_as, seen, look_of, lost, turn, move, land, Ends}
 use Rattle.exit.specs.Attempt.{Attempt, shut, glide, lost as astray}
@@ -51,7 +51,7 @@ abbrev pub round : Picture
 round = picture 2 3 1 (6 ∷ 19 ∷ 19 ∷ 18 ∷ 19 ∷ 19 ∷ [])
 
 -- edition 1: twice round the white square are eight turns
-pub twice_round : (cc : ℕ) → Ends round eighth_turn 0 1 (record { dp = 0; cc = cc }) Lost
+pub twice_round : (cc : ℕ) → Ends round eighth_turn 0 1 (record { dp = 0; cc = cc }) None
 unfolding seen_as seen look_of ahead_of turns_of eighth_turn
 twice_round cc =
     record {
@@ -69,7 +69,7 @@ twice_round cc =
     }
 
 -- edition 2: once round it comes back to its first station
-pub once_round : (cc : ℕ) → Ends round comes_back 0 1 (record { dp = 0; cc = cc }) Lost
+pub once_round : (cc : ℕ) → Ends round comes_back 0 1 (record { dp = 0; cc = cc }) None
 unfolding seen_as seen look_of ahead_of occurs comes_back
 once_round cc =
     record {
@@ -82,7 +82,7 @@ once_round cc =
           (lost refl))))))));
     }
 
-round_lost : (e : Edition) (cc : ℕ) → Ends round (lost_by e) 0 1 (record { dp = 0; cc = cc }) Lost
+round_lost : (e : Edition) (cc : ℕ) → Ends round (lost_by e) 0 1 (record { dp = 0; cc = cc }) None
 round_lost Rust = twice_round
 round_lost Page = once_round
 

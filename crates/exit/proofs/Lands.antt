@@ -9,6 +9,7 @@ use native.Mathlib.Omega.{arith}
 use borrow.Author.Tests.{eqb-true}
 use lib.Dec.{eqb}
 use lib.ListN.{length}
+use Rattle.std.specs.Prelude.{Some}
 use Rattle.base.proofs.Clash.{clash}
 use Rattle.base.proofs.Tests.{and_both}
 use Rattle.flow.specs.Pointer.{turned_once}
@@ -16,9 +17,8 @@ use Rattle.flow.specs.declared.PointerState.{PointerState}
 use Rattle.picture.specs.Picture.{Picture}
 use Rattle.exit.specs.declared.slide.Sight.{Sight}
 use Rattle.exit.specs.declared.slide.Sight.TheVariants.{Shut, White, Coloured}
-use Rattle.exit.specs.declared.slide.Slid.TheVariants.{Landed}
 use Rattle.exit.specs.Trail.{Station, station, Trail, Rule, same_station, occurs, comes_back}
-use Rattle.exit.specs.Slide.{look_of, Slide, turn, move, land}
+use Rattle.exit.specs.Slide.{landed, look_of, Slide, turn, move, land}
 
 -- `LandsIn p r c d k`: from codel (r, c) with dp d a coloured codel is ahead after k moves and turns
 pub data LandsIn (p : Picture) : ℕ → ℕ → ℕ → ℕ → Type 0 where
@@ -90,8 +90,8 @@ later_new {p} {k} a l (more {a = b} {t = t} {j = j} h m q) = by_test (same_stati
     by_test false e f = rw e f
 
 -- a landing by any rule: no station of it comes again, so edition 2's slide takes the same trail
-pub lands_again : {p : Picture} {rule : Rule} {past t : Trail} {r c a b : ℕ} {s u : PointerState} → Slide p rule past r c s t (Landed a b u)
-    → (k : ℕ) × LandsIn p r c s.dp k × (Later p k past → Slide p comes_back past r c s t (Landed a b u))
+pub lands_again : {p : Picture} {rule : Rule} {past t : Trail} {r c a b : ℕ} {s u : PointerState} → Slide p rule past r c s t (Some (landed a b u))
+    → (k : ℕ) × LandsIn p r c s.dp k × (Later p k past → Slide p comes_back past r c s t (Some (landed a b u)))
 unfolding comes_back
 lands_again {r = r} {c = c} {s = s} (turn h e d) =
     let (k, l, f) = lands_again d in
@@ -104,12 +104,12 @@ lands_again {r = r} {c = c} {s = s} (move h e d) =
 lands_again {r = r} {c = c} {s = s} (land h e) = (0, ahead e, λ q. land (later_new (station r c s) (ahead e) q) e)
 
 pub lands_back : {p : Picture} {rule : Rule} {t : Trail} {r c a b : ℕ} {s u : PointerState}
-    → Slide p rule [] r c s t (Landed a b u) → Slide p comes_back [] r c s t (Landed a b u)
+    → Slide p rule [] r c s t (Some (landed a b u)) → Slide p comes_back [] r c s t (Some (landed a b u))
 lands_back d = (lands_again d).2 none
 
 -- what lands in k, edition 2's slide lands with
 pub lands_with : {p : Picture} {past : Trail} {r c d k : ℕ} (s : PointerState) → s.dp ≡ d → LandsIn p r c d k → Later p k past
-    → (t : Trail) × (a : ℕ) × (b : ℕ) × (u : PointerState) × Slide p comes_back past r c s t (Landed a b u) × (length t ≡ length past + k + 1)
+    → (t : Trail) × (a : ℕ) × (b : ℕ) × (u : PointerState) × Slide p comes_back past r c s t (Some (landed a b u)) × (length t ≡ length past + k + 1)
 unfolding comes_back
 lands_with {p} {past} {r} {c} s q (ahead {a = a} {b = b} e) l =
     let e' : look_of p r c s.dp ≡ Coloured a b = rw q e in

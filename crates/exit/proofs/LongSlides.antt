@@ -6,12 +6,12 @@
 -- Assumes nothing.
 use mathlib.Core.Path.{refl}
 use mathlib.Core.List.{[], ◌∷◌}
+use Rattle.std.specs.Prelude.{Some, None}
 use Rattle.flow.specs.Pointer.{of_number}
 use Rattle.flow.specs.Neighbour.{ahead_of}
 use Rattle.picture.specs.Picture.{Picture, picture}
-use Rattle.exit.specs.declared.slide.Slid.TheVariants.{Landed, Lost}
 use Rattle.exit.specs.Trail.{turns_of, occurs, eighth_turn, comes_back}
-use Rattle.exit.specs.Slide.{seen_as, seen, look_of, lost, turn, move, land, Ends}
+use Rattle.exit.specs.Slide.{landed, seen_as, seen, look_of, lost, turn, move, land, Ends}
 
 -- red, white, white over black, black, white
 abbrev later : Picture
@@ -21,7 +21,7 @@ later =
     18 ∷ 18 ∷ 19 ∷ [])
 
 -- not the first station comes again: (0, 2) with dp right, by a turn
-pub later_back : Ends later comes_back 0 1 (of_number 0) Lost
+pub later_back : Ends later comes_back 0 1 (of_number 0) None
 unfolding seen_as seen look_of ahead_of occurs comes_back
 later_back =
     record {
@@ -39,7 +39,7 @@ corner =
     18 ∷ 19 ∷ [])
 
 -- the first station comes again
-pub first_back : Ends corner comes_back 0 1 (of_number 0) Lost
+pub first_back : Ends corner comes_back 0 1 (of_number 0) None
 unfolding seen_as seen look_of ahead_of occurs comes_back
 first_back =
     record {
@@ -58,7 +58,7 @@ crossing =
     18 ∷ 18 ∷ 19 ∷ 18 ∷ [])
 
 -- edition 1 makes the eighth turn before it lands
-pub crossing_lost : Ends crossing eighth_turn 0 1 (of_number 0) Lost
+pub crossing_lost : Ends crossing eighth_turn 0 1 (of_number 0) None
 unfolding seen_as seen look_of ahead_of turns_of eighth_turn
 crossing_lost =
     record {
@@ -70,7 +70,7 @@ crossing_lost =
     }
 
 -- edition 2 lands after eight turns; it has stood nine times on seven white codels
-pub crossing_lands : Ends crossing comes_back 0 1 (of_number 0) (Landed 1 3 (of_number 0))
+pub crossing_lands : Ends crossing comes_back 0 1 (of_number 0) (Some (landed 1 3 (of_number 0)))
 unfolding seen_as seen look_of ahead_of occurs comes_back
 crossing_lands =
     record {
@@ -97,7 +97,7 @@ spiral =
     19 ∷ 19 ∷ 19 ∷ 19 ∷ 19 ∷ 19 ∷ 19 ∷ 19 ∷ [])
 
 -- edition 1: the eighth turn
-pub spiral_lost : Ends spiral eighth_turn 0 1 (of_number 0) Lost
+pub spiral_lost : Ends spiral eighth_turn 0 1 (of_number 0) None
 unfolding seen_as seen look_of ahead_of turns_of eighth_turn
 spiral_lost =
     record {
@@ -115,7 +115,7 @@ spiral_lost =
     }
 
 -- edition 2 reaches it, over 47 codels
-pub spiral_lands : Ends spiral comes_back 0 1 (of_number 0) (Landed 5 3 (of_number 3))
+pub spiral_lands : Ends spiral comes_back 0 1 (of_number 0) (Some (landed 5 3 (of_number 3)))
 unfolding seen_as seen look_of ahead_of occurs comes_back
 spiral_lands =
     record {

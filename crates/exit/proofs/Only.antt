@@ -1,6 +1,6 @@
 -- What the contracts cite is determined: a slide and an attempt have one outcome, a region has one codel to leave by in
 -- each state, and there is one table of these over given cells. Assumes nothing.
-use mathlib.Core.Path.{◌≡◌, refl, sym, subst, ◌∙◌}
+use mathlib.Core.Path.{◌≡◌, ap, refl, sym, subst, ◌∙◌}
 use mathlib.Core.Bool.{Bool, true, false}
 use mathlib.Core.Logic.{◌⊎◌, inl, inr}
 use mathlib.Core.List.{List}
@@ -9,6 +9,8 @@ use native.Mathlib.Omega.{arith}
 use borrow.Author.Tests.{eqb-true, eqb-false}
 use lib.Dec.{eqb}
 use lib.ListN.{length, get_or}
+use Rattle.std.specs.Prelude.{Option, Some}
+use Rattle.exit.specs.declared.slide.Landed.{Landed}
 use Rattle.base.specs.declared.edition.Edition.{Edition}
 use Rattle.flow.specs.Pointer.{Valid}
 use Rattle.flow.proofs.Order.{valid_number}
@@ -18,10 +20,9 @@ use Rattle.table.specs.Layout.{exit_at}
 use Rattle.table.proofs.Cells.{same_exits}
 use Rattle.exit.specs.declared.slide.Sight.{Sight}
 use Rattle.exit.specs.declared.slide.Sight.TheVariants.{White}
-use Rattle.exit.specs.declared.slide.Slid.{Slid}
 use Rattle.exit.specs.declared.attempt.Way.{Way}
 use Rattle.exit.specs.Trail.{Trail, Rule}
-use Rattle.exit.specs.Slide.{Slide, lost, turn, move, land, Ends}
+use Rattle.exit.specs.Slide.{landed, Slide, lost, turn, move, land, Ends}
 use Rattle.exit.specs.Attempt as attempts
 use Rattle.exit.specs.Attempt.{Attempt, shut, step, glide}
 use Rattle.exit.specs.Leaving.{LeavesBy}
@@ -30,13 +31,13 @@ use Rattle.exit.proofs.LeavingLaws.{neither}
 use Rattle.base.proofs.Clash.{clash}
 
 -- two white codels that one look sees are one
-same_codel : {p : Picture} {rule : Rule} {past t : Trail} {x : Sight} {a b a' b' : ℕ} {s : PointerState} {o : Slid}
+same_codel : {p : Picture} {rule : Rule} {past t : Trail} {x : Sight} {a b a' b' : ℕ} {s : PointerState} {o : Option Landed}
     → x ≡ White a b → x ≡ White a' b' → Slide p rule past a' b' s t o → Slide p rule past a b s t o
 same_codel {p} {rule} {past} {t} {a = a} {b' = b'} {s = s} {o = o} e f d =
     subst (λ (y : ℕ). Slide p rule past a y s t o) (cc) (subst (λ (x : ℕ). Slide p rule past x b' s t o) (cc) d)
 
 -- a slide has one trail and one end, whatever its rule
-pub slide_only : {p : Picture} {rule : Rule} {past t t' : Trail} {r c : ℕ} {s : PointerState} {o o' : Slid}
+pub slide_only : {p : Picture} {rule : Rule} {past t t' : Trail} {r c : ℕ} {s : PointerState} {o o' : Option Landed}
     → Slide p rule past r c s t o → Slide p rule past r c s t' o' → (t ≡ t') × (o ≡ o')
 slide_only (lost h) (lost k) = (refl, refl)
 slide_only (lost h) (turn k f d') = clash (cc)
@@ -55,12 +56,17 @@ slide_only (land h e) (turn k f d') = clash (cc)
 slide_only (land h e) (move k f d') = clash (cc)
 slide_only (land h e) (land k f) = (refl, cc)
 
-pub ends_only : {p : Picture} {rule : Rule} {r c : ℕ} {s : PointerState} {o o' : Slid} → Ends p rule r c s o → Ends p rule r c s o' → o ≡ o'
+pub ends_only : {p : Picture} {rule : Rule} {r c : ℕ} {s : PointerState} {o o' : Option Landed} → Ends p rule r c s o → Ends p rule r c s o' → o ≡ o'
 ends_only x y = (slide_only x.slides y.slides).1
 
-same_end : {p : Picture} {rule : Rule} {x : Sight} {a b a' b' : ℕ} {s : PointerState} {o : Slid}
+same_end : {p : Picture} {rule : Rule} {x : Sight} {a b a' b' : ℕ} {s : PointerState} {o : Option Landed}
     → x ≡ White a b → x ≡ White a' b' → Ends p rule a' b' s o → Ends p rule a b s o
 same_end e f d = record { trail = d.trail; slides = same_codel e f d.slides }
+
+same_landing : {a b a' b' : ℕ} {t t' : PointerState} → Some (landed a b t) ≡ Some (landed a' b' t') → (a ≡ a') × (b ≡ b') × (t ≡ t')
+same_landing {a} {b} {a'} {b'} {t} {t'} e =
+    let q : landed a b t ≡ landed a' b' t' = cc in
+    (ap (λ (o : Landed). o.row) q, ap (λ (o : Landed). o.col) q, ap (λ (o : Landed). o.state) q)
 
 -- an attempt has one outcome
 pub attempt_only : {e : Edition} {p : Picture} {r c : ℕ} {s : PointerState} {w w' : Way} → Attempt e p r c s w → Attempt e p r c s w' → w ≡ w'
@@ -74,7 +80,7 @@ attempt_only (step e) (glide f d') = clash (cc)
 attempt_only (step e) (attempts.lost f d') = clash (cc)
 attempt_only (glide e d) (shut f) = clash (cc)
 attempt_only (glide e d) (step f) = clash (cc)
-attempt_only (glide e d) (glide f d') = let q = ends_only d (same_end e f d') in cc
+attempt_only (glide e d) (glide f d') = let (x, y, z) = same_landing (ends_only d (same_end e f d')) in cc
 attempt_only (glide e d) (attempts.lost f d') = let q = ends_only d (same_end e f d') in clash (cc)
 attempt_only (attempts.lost e d) (shut f) = clash (cc)
 attempt_only (attempts.lost e d) (step f) = clash (cc)

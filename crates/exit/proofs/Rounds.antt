@@ -14,13 +14,13 @@ use native.Mathlib.Omega.{arith}
 use borrow.Author.Tests.{eqb-true, eqb-false, eq-eqb}
 use lib.Dec.{eqb}
 use lib.ListN.{length}
+use Rattle.std.specs.Prelude.{None}
 use Rattle.base.proofs.Clash.{clash}
 use Rattle.flow.specs.Pointer.{turned_once}
 use Rattle.flow.specs.declared.PointerState.{PointerState}
 use Rattle.picture.specs.Picture.{Picture}
 use Rattle.exit.specs.declared.slide.Sight.{Sight}
 use Rattle.exit.specs.declared.slide.Sight.TheVariants.{Shut, White, Coloured}
-use Rattle.exit.specs.declared.slide.Slid.TheVariants.{Lost}
 use Rattle.exit.specs.Trail.{Station, station, Trail, same_station, occurs, comes_back}
 use Rattle.exit.specs.Slide.{look_of, Slide, lost, turn, move, looks_of}
 use Rattle.exit.proofs.Lands.{Lands, ahead, turned, moved, same_stations}
@@ -111,7 +111,7 @@ occurs_at {p} {a} b (more {b = d} {t = t} q l) e = by_test (same_station b d) re
         (m, omega arith, g)
 
 -- the trail of a lost slide of edition 2 is the way to the loop and the loop
-lost_loop : {p : Picture} {a : Station} {past t : Trail} {r c : ℕ} {s : PointerState} → Slide p comes_back past r c s t Lost
+lost_loop : {p : Picture} {a : Station} {past t : Trail} {r c : ℕ} {s : PointerState} → Slide p comes_back past r c s t None
     → Along p a past → after p (length past) a ≡ station r c s → (m : ℕ) × (l : ℕ) × Loop p a m l × (length t ≡ m + l + 1)
 unfolding comes_back after
 lost_loop {p} {a} {past} {r = r} {c = c} {s = s} (lost h) g e =
@@ -154,20 +154,20 @@ still_new {p} {a} {b} {past} {i} {j} h g e k q z = by_test (eqb j (length past))
     by_test false f = omega (arith, eqb-false j (length past) f)
 
 -- so the slide is lost no later than any station comes again
-lost_first : {p : Picture} {a : Station} {past t : Trail} {r c i j : ℕ} {s : PointerState} → Slide p comes_back past r c s t Lost
+lost_first : {p : Picture} {a : Station} {past t : Trail} {r c i j : ℕ} {s : PointerState} → Slide p comes_back past r c s t None
     → Along p a past → after p (length past) a ≡ station r c s → i < j → after p i a ≡ after p j a → length past ≤ j → length t ≤ j + 1
 unfolding comes_back after
 lost_first (lost h) g e k q z = omega arith
 lost_first {p} {r = r} {c = c} {s = s} (turn h l d) g e k q z = lost_first d (more e g) (ap (onward p) e ∙ onward_turn p r c s l) k q (omega (arith, still_new h g e k q z))
 lost_first {p} {r = r} {c = c} {s = s} (move h l d) g e k q z = lost_first d (more e g) (ap (onward p) e ∙ onward_move p r c s l) k q (omega (arith, still_new h g e k q z))
 
-pub lost_soonest : {p : Picture} {t : Trail} {r c i j : ℕ} {s : PointerState} → Slide p comes_back [] r c s t Lost
-    → i < j → after p i (station r c s) ≡ after p j (station r c s) → looks_of Lost t ≤ j
+pub lost_soonest : {p : Picture} {t : Trail} {r c i j : ℕ} {s : PointerState} → Slide p comes_back [] r c s t None
+    → i < j → after p i (station r c s) ≡ after p j (station r c s) → looks_of None t ≤ j
 unfolding after looks_of
 lost_soonest d k q = omega (arith, lost_first d none refl k q (omega arith))
 
-pub lost_rounds : {p : Picture} {t : Trail} {r c : ℕ} {s : PointerState} → Slide p comes_back [] r c s t Lost
-    → (m : ℕ) × (l : ℕ) × Loop p (station r c s) m l × (looks_of Lost t ≡ m + l)
+pub lost_rounds : {p : Picture} {t : Trail} {r c : ℕ} {s : PointerState} → Slide p comes_back [] r c s t None
+    → (m : ℕ) × (l : ℕ) × Loop p (station r c s) m l × (looks_of None t ≡ m + l)
 unfolding after looks_of
 lost_rounds d =
     let (m, l, o, q) = lost_loop d none refl in

@@ -6,6 +6,8 @@ use mathlib.Core.List.{[], ◌∷◌}
 use Prim.Native.Nat.{ℕ, zero, suc, ◌+◌, ◌<◌}
 use native.Mathlib.Omega.{arith}
 use borrow.Author.Tests.{leb-false}
+use Rattle.std.specs.Prelude.{Option, Some, None}
+use Rattle.exit.specs.declared.slide.Landed.{Landed}
 use Rattle.colour.specs.Palette.{black, white}
 use Rattle.flow.specs.Pointer.{Valid, turned_once}
 use Rattle.flow.proofs.Order.{valid_turned}
@@ -13,10 +15,8 @@ use Rattle.flow.specs.declared.PointerState.{PointerState}
 use Rattle.picture.specs.Picture.{Picture, Inside, colour_at}
 use Rattle.exit.specs.declared.slide.Sight.{Sight}
 use Rattle.exit.specs.declared.slide.Sight.TheVariants.{Shut, White, Coloured}
-use Rattle.exit.specs.declared.slide.Slid.{Slid}
-use Rattle.exit.specs.declared.slide.Slid.TheVariants.{Landed, Lost}
 use Rattle.exit.specs.Trail.{station, Trail, Rule, most_turns, turns_of, eighth_turn}
-use Rattle.exit.specs.Slide.{look_of, Slide, lost, turn, move, land, Ends}
+use Rattle.exit.specs.Slide.{landed, look_of, Slide, lost, turn, move, land, Ends}
 use Rattle.exit.proofs.SlideLaws.{coloured_inside, coloured_colour, white_inside}
 use Rattle.exit.proofs.Sliding.{measure, turn_less, move_less}
 use Rattle.exit.proofs.TrailLaws.{no_turns, turns_turn, turns_move}
@@ -28,7 +28,7 @@ turns_left past r c s g = leb-false most_turns (turns_of (station r c s ∷ past
 
 -- some trail and some end
 abbrev Ending : Picture → Trail → ℕ → ℕ → PointerState → Type 0
-Ending p past r c s = (t : Trail) × (o : Slid) × Slide p eighth_turn past r c s t o
+Ending p past r c s = (t : Trail) × (o : Option Landed) × Slide p eighth_turn past r c s t o
 
 -- by recursion on a bound of the measure
 ends : (k : ℕ) (p : Picture) (past : Trail) (r c : ℕ) (s : PointerState) (n : ℕ) → n ≡ turns_of (station r c s ∷ past) → Inside p r c → Valid s
@@ -49,14 +49,14 @@ ends (suc k) p past r c s n q i v l =
     see go g h (White a b) e =
         let (t, o, d) = go a b s n (q ∙ sym (turns_move r c s past a b)) (white_inside p r c s.dp i e) v (move_less p r c a b s n i e) in
         (t, o, move g e d)
-    see go g h (Coloured a b) e = (station r c s ∷ past, Landed a b s, land g e)
+    see go g h (Coloured a b) e = (station r c s ∷ past, Some (landed a b s), land g e)
 
     by_rule : Less → (x : Bool) → eighth_turn (station r c s ∷ past) ≡ x → Ending p past r c s
-    by_rule go true g = (station r c s ∷ past, Lost, lost g)
+    by_rule go true g = (station r c s ∷ past, None, lost g)
     by_rule go false g = see go g (omega (arith, turns_left past r c s g, q)) (look_of p r c s.dp) refl
 
 -- a slide of edition 1 ends
-pub rust_slide_total : (p : Picture) (r c : ℕ) (s : PointerState) → Inside p r c → Valid s → (o : Slid) × Ends p eighth_turn r c s o
+pub rust_slide_total : (p : Picture) (r c : ℕ) (s : PointerState) → Inside p r c → Valid s → (o : Option Landed) × Ends p eighth_turn r c s o
 rust_slide_total p r c s i v =
     let (t, o, d) = ends (suc (measure p r c s 0)) p [] r c s 0 (sym (no_turns (station r c s))) i v (omega arith) in
     (o, record { trail = t; slides = d })
@@ -69,12 +69,12 @@ pub record Landing (p : Picture) (a b : ℕ) (t : PointerState) : Type 0 where
   pub not_white : colour_at p a b ≡ white → ⊥
 
 lands_at : {p : Picture} {rule : Rule} {past t : Trail} {r c a b : ℕ} {s u : PointerState}
-    → Slide p rule past r c s t (Landed a b u) → Inside p r c → Valid s → Landing p a b u
+    → Slide p rule past r c s t (Some (landed a b u)) → Inside p r c → Valid s → Landing p a b u
 lands_at (turn h e d) i v = lands_at d i (valid_turned _ v)
 lands_at {p} {r = r} {c = c} {s = s} (move h e d) i v = lands_at d (white_inside p r c s.dp i e) v
 lands_at {p} {r = r} {c = c} {s = s} (land h e) i v =
     let q = coloured_colour p r c s.dp e in
     record { place = coloured_inside p r c s.dp i e; valid = v; not_black = q.0; not_white = q.1 }
 
-pub landing : {p : Picture} {rule : Rule} {r c a b : ℕ} {s u : PointerState} → Ends p rule r c s (Landed a b u) → Inside p r c → Valid s → Landing p a b u
+pub landing : {p : Picture} {rule : Rule} {r c a b : ℕ} {s u : PointerState} → Ends p rule r c s (Some (landed a b u)) → Inside p r c → Valid s → Landing p a b u
 landing x i v = lands_at x.slides i v

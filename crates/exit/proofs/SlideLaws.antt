@@ -4,11 +4,10 @@ use mathlib.Core.Bool.{Bool, true, false, cond}
 use Prim.Native.Nat.{ℕ}
 use borrow.Author.Tests.{eqb-true, eqb-false, ne_eqb}
 use lib.Dec.{eqb}
+use Rattle.std.specs.Prelude.{Option, Some, None}
 use Rattle.colour.specs.Palette.{black, white}
 use Rattle.flow.specs.Neighbour.{ahead_of}
 use Rattle.flow.proofs.NeighbourLaws.{inside}
-use Rattle.flow.specs.declared.Beyond.{Beyond}
-use Rattle.flow.specs.declared.Beyond.TheVariants.{Codel, Outside}
 use Rattle.picture.specs.Picture.{Picture, Inside, colour_at, rows_of, cols_of}
 use Rattle.exit.specs.declared.slide.Sight.{Sight}
 use Rattle.exit.specs.declared.slide.Sight.TheVariants.{Shut, White, Coloured}
@@ -28,19 +27,19 @@ unfolding seen_as
 seen_coloured k r c h i = simp (ne_eqb k black h, ne_eqb k white i)
 
 -- what is ahead, and what it is seen as
-pub data Sighted (p : Picture) : Beyond → Sight → Type 0 where
-  at_edge : Sighted p Outside Shut
-  at_black : {r c : ℕ} → colour_at p r c ≡ black → Sighted p (Codel r c) Shut
-  at_white : {r c : ℕ} → colour_at p r c ≡ white → Sighted p (Codel r c) (White r c)
-  at_colour : {r c : ℕ} → (colour_at p r c ≡ black → ⊥) → (colour_at p r c ≡ white → ⊥) → Sighted p (Codel r c) (Coloured r c)
+pub data Sighted (p : Picture) : Option (ℕ × ℕ) → Sight → Type 0 where
+  at_edge : Sighted p None Shut
+  at_black : {r c : ℕ} → colour_at p r c ≡ black → Sighted p (Some (r, c)) Shut
+  at_white : {r c : ℕ} → colour_at p r c ≡ white → Sighted p (Some (r, c)) (White r c)
+  at_colour : {r c : ℕ} → (colour_at p r c ≡ black → ⊥) → (colour_at p r c ≡ white → ⊥) → Sighted p (Some (r, c)) (Coloured r c)
 
-sighted : (p : Picture) (n : Beyond) → Sighted p n (seen p n)
+sighted : (p : Picture) (n : Option (ℕ × ℕ)) → Sighted p n (seen p n)
 unfolding seen seen_as
-sighted p Outside = at_edge
-sighted p (Codel r c) = by_tests (eqb (colour_at p r c) black) (eqb (colour_at p r c) white) refl refl
+sighted p None = at_edge
+sighted p (Some (r, c)) = by_tests (eqb (colour_at p r c) black) (eqb (colour_at p r c) white) refl refl
   where
     by_tests : (k w : Bool) → eqb (colour_at p r c) black ≡ k → eqb (colour_at p r c) white ≡ w
-        → Sighted p (Codel r c) (cond k Shut (cond w (White r c) (Coloured r c)))
+        → Sighted p (Some (r, c)) (cond k Shut (cond w (White r c) (Coloured r c)))
     by_tests true w ek ew = at_black (eqb-true _ _ ek)
     by_tests false true ek ew = at_white (eqb-true _ _ ew)
     by_tests false false ek ew = at_colour (eqb-false _ _ ek) (eqb-false _ _ ew)
@@ -50,36 +49,36 @@ unfolding look_of
 look_sighted p r c d e = subst (Sighted p (ahead_of (rows_of p) (cols_of p) r c d)) e (sighted p (ahead_of (rows_of p) (cols_of p) r c d))
 
 -- a look from what is ahead
-pub look_outside : (p : Picture) (r c d : ℕ) → ahead_of (rows_of p) (cols_of p) r c d ≡ Outside → look_of p r c d ≡ Shut
+pub look_outside : (p : Picture) (r c d : ℕ) → ahead_of (rows_of p) (cols_of p) r c d ≡ None → look_of p r c d ≡ Shut
 unfolding look_of seen
 look_outside p r c d e = ap (seen p) e
 
-pub look_codel : (p : Picture) (r c d a b : ℕ) → ahead_of (rows_of p) (cols_of p) r c d ≡ Codel a b → look_of p r c d ≡ seen_as (colour_at p a b) a b
+pub look_codel : (p : Picture) (r c d a b : ℕ) → ahead_of (rows_of p) (cols_of p) r c d ≡ Some (a, b) → look_of p r c d ≡ seen_as (colour_at p a b) a b
 unfolding look_of seen
 look_codel p r c d a b e = ap (seen p) e
 
 -- a white codel that is seen, and a coloured one, is the codel ahead
-white_codel : {p : Picture} {n : Beyond} {a b : ℕ} → Sighted p n (White a b) → n ≡ Codel a b
+white_codel : {p : Picture} {n : Option (ℕ × ℕ)} {a b : ℕ} → Sighted p n (White a b) → n ≡ Some (a, b)
 white_codel (at_white h) = refl
 
-coloured_codel : {p : Picture} {n : Beyond} {a b : ℕ} → Sighted p n (Coloured a b) → n ≡ Codel a b
+coloured_codel : {p : Picture} {n : Option (ℕ × ℕ)} {a b : ℕ} → Sighted p n (Coloured a b) → n ≡ Some (a, b)
 coloured_codel (at_colour h i) = refl
 
-neither_colour : {p : Picture} {n : Beyond} {a b : ℕ} → Sighted p n (Coloured a b) → (colour_at p a b ≡ black → ⊥) × (colour_at p a b ≡ white → ⊥)
+neither_colour : {p : Picture} {n : Option (ℕ × ℕ)} {a b : ℕ} → Sighted p n (Coloured a b) → (colour_at p a b ≡ black → ⊥) × (colour_at p a b ≡ white → ⊥)
 neither_colour (at_colour h i) = (h, i)
 
 module _ (p : Picture) (r c d : ℕ) {a b : ℕ} where
-  pub white_ahead : look_of p r c d ≡ White a b → ahead_of (rows_of p) (cols_of p) r c d ≡ Codel a b
+  pub white_ahead : look_of p r c d ≡ White a b → ahead_of (rows_of p) (cols_of p) r c d ≡ Some (a, b)
   white_ahead e = white_codel (look_sighted p r c d e)
 
-  pub coloured_ahead : look_of p r c d ≡ Coloured a b → ahead_of (rows_of p) (cols_of p) r c d ≡ Codel a b
+  pub coloured_ahead : look_of p r c d ≡ Coloured a b → ahead_of (rows_of p) (cols_of p) r c d ≡ Some (a, b)
   coloured_ahead e = coloured_codel (look_sighted p r c d e)
 
   pub coloured_colour : look_of p r c d ≡ Coloured a b → (colour_at p a b ≡ black → ⊥) × (colour_at p a b ≡ white → ⊥)
   coloured_colour e = neither_colour (look_sighted p r c d e)
 
   -- the codel ahead of one of the grid is one of the grid
-  pub ahead_inside : Inside p r c → ahead_of (rows_of p) (cols_of p) r c d ≡ Codel a b → Inside p a b
+  pub ahead_inside : Inside p r c → ahead_of (rows_of p) (cols_of p) r c d ≡ Some (a, b) → Inside p a b
   ahead_inside i e =
       let q = inside (rows_of p) (cols_of p) r c d a b i.row_in i.col_in e in
       record { row_in = q.0; col_in = q.1 }

@@ -6,16 +6,16 @@ use mathlib.Core.List.{[], ◌∷◌}
 use Prim.Native.Nat.{ℕ, suc, ◌+◌, ◌-◌, ◌*◌, ◌<◌, ◌≤◌}
 use native.Mathlib.Omega.{arith}
 use borrow.Author.Tests.{le-leb, lt-leb}
+use Rattle.std.specs.Prelude.{Option, Some, None}
+use Rattle.exit.specs.declared.slide.Landed.{Landed}
 use Rattle.flow.specs.Pointer.{Valid, turned_once}
 use Rattle.flow.proofs.Order.{valid_turned}
 use Rattle.flow.proofs.NeighbourLaws.{room, room_small, room_less}
 use Rattle.flow.specs.declared.PointerState.{PointerState}
 use Rattle.picture.specs.Picture.{Picture, Inside, rows_of, cols_of}
 use Rattle.exit.specs.declared.slide.Sight.TheVariants.{Shut, White, Coloured}
-use Rattle.exit.specs.declared.slide.Slid.{Slid}
-use Rattle.exit.specs.declared.slide.Slid.TheVariants.{Landed, Lost}
 use Rattle.exit.specs.Trail.{station, Trail, most_turns, turns_of, eighth_turn}
-use Rattle.exit.specs.Slide.{look_of, Slide, lost, turn, move, land, Ends}
+use Rattle.exit.specs.Slide.{landed, look_of, Slide, lost, turn, move, land, Ends}
 use Rattle.exit.proofs.SlideLaws.{white_ahead, white_inside}
 use Rattle.exit.proofs.TrailLaws.{no_turns, turns_turn, turns_move}
 
@@ -45,7 +45,7 @@ pub record Sliding (p : Picture) (r₀ c₀ : ℕ) (s₀ : PointerState) (r c : 
   pub few : n ≤ most_turns
   pub past : Trail
   pub turned : n ≡ turns_of (station r c s ∷ past)
-  pub rest : (t : Trail) (o : Slid) → Slide p eighth_turn past r c s t o → Slide p eighth_turn [] r₀ c₀ s₀ t o
+  pub rest : (t : Trail) (o : Option Landed) → Slide p eighth_turn past r c s t o → Slide p eighth_turn [] r₀ c₀ s₀ t o
 
 pub begins : {p : Picture} {r c : ℕ} {s : PointerState} → Inside p r c → Valid s → Sliding p r c s r c s 0
 begins {r = r} {c = c} {s = s} i v =
@@ -55,7 +55,7 @@ below : {n : ℕ} → n ≤ most_turns → (n ≡ most_turns → ⊥) → n < mo
 below h k = omega arith
 
 module _ {p : Picture} {r₀ c₀ : ℕ} {s₀ : PointerState} {r c : ℕ} {s : PointerState} {n : ℕ} (S : Sliding p r₀ c₀ s₀ r c s n) where
-  pub loses : n ≡ most_turns → Ends p eighth_turn r₀ c₀ s₀ Lost
+  pub loses : n ≡ most_turns → Ends p eighth_turn r₀ c₀ s₀ None
   unfolding eighth_turn
   loses h =
       record {
@@ -96,5 +96,5 @@ module _ {p : Picture} {r₀ c₀ : ℕ} {s₀ : PointerState} {r c : ℕ} {s : 
           rest = λ t o d. S.rest t o (move on e d);
         }
 
-    pub lands : {a b : ℕ} → look_of p r c s.dp ≡ Coloured a b → Ends p eighth_turn r₀ c₀ s₀ (Landed a b s)
+    pub lands : {a b : ℕ} → look_of p r c s.dp ≡ Coloured a b → Ends p eighth_turn r₀ c₀ s₀ (Some (landed a b s))
     lands e = record { trail = station r c s ∷ S.past; slides = S.rest _ _ (land on e) }

@@ -12,6 +12,8 @@ use borrow.Author.Tests.{eqb-true, eq-eqb}
 use lib.Arith.{digits_lt, digits_div, digits_mod}
 use lib.Dec.{eqb}
 use lib.ListN.{length}
+use Rattle.std.specs.Prelude.{Option, Some, None}
+use Rattle.exit.specs.declared.slide.Landed.{Landed}
 use Rattle.base.specs.Counting.{count}
 use Rattle.base.proofs.CountingLaws.{Below, none, more}
 use Rattle.base.proofs.Pigeonhole.{Distinct, distinct_none, distinct_more, pigeonhole}
@@ -22,10 +24,8 @@ use Rattle.flow.specs.declared.PointerState.{PointerState}
 use Rattle.picture.specs.Picture.{Picture, Inside, rows_of, cols_of, codels}
 use Rattle.exit.specs.declared.slide.Sight.{Sight}
 use Rattle.exit.specs.declared.slide.Sight.TheVariants.{Shut, White, Coloured}
-use Rattle.exit.specs.declared.slide.Slid.{Slid}
-use Rattle.exit.specs.declared.slide.Slid.TheVariants.{Landed, Lost}
 use Rattle.exit.specs.Trail.{Station, station, Trail, same_station, occurs, comes_back}
-use Rattle.exit.specs.Slide.{look_of, Slide, lost, turn, move, land, Ends, looks_of}
+use Rattle.exit.specs.Slide.{landed, look_of, Slide, lost, turn, move, land, Ends, looks_of}
 use Rattle.exit.proofs.SlideLaws.{white_inside}
 use Rattle.exit.proofs.Lands.{LandsIn, lands_again, lands_with}
 use Rattle.exit.proofs.Lands as landings
@@ -101,7 +101,7 @@ once_short {p} {t} o = omega (arith, codes_length (cols_of p) t, pigeonhole (cod
 
 -- a slide that has had the stations `past` ends
 abbrev Goes : Picture → Trail → ℕ → ℕ → PointerState → Type 0
-Goes p past r c s = (t : Trail) × (o : Slid) × Slide p comes_back past r c s t o
+Goes p past r c s = (t : Trail) × (o : Option Landed) × Slide p comes_back past r c s t o
 
 -- by recursion on the stations that are left
 goes_on : (k : ℕ) {p : Picture} {past : Trail} (r c : ℕ) (s : PointerState) → Once p past → Inside p r c → Valid s → 4 * codels p < length past + k
@@ -123,20 +123,20 @@ goes_on (suc k) {p} {past} r c s q i v h = by_test (λ a b u w j z. goes_on k a 
     see go f (White a b) e =
         let (t, o, d) = go a b s (goes (on_grid i v) f q) (white_inside p r c s.dp i e) v in
         (t, o, move f e d)
-    see go f (Coloured a b) e = (here ∷ past, Landed a b s, land f e)
+    see go f (Coloured a b) e = (here ∷ past, Some (landed a b s), land f e)
 
     by_test : Next → (x : Bool) → occurs here past ≡ x → Goes p past r c s
-    by_test go true e = (here ∷ past, Lost, lost e)
+    by_test go true e = (here ∷ past, None, lost e)
     by_test go false e = see go e (look_of p r c s.dp) refl
 
 -- a slide of edition 2 ends
-pub page_slide_total : (p : Picture) (r c : ℕ) (s : PointerState) → Inside p r c → Valid s → (o : Slid) × Ends p comes_back r c s o
+pub page_slide_total : (p : Picture) (r c : ℕ) (s : PointerState) → Inside p r c → Valid s → (o : Option Landed) × Ends p comes_back r c s o
 page_slide_total p r c s i v =
     let (t, o, d) = goes_on (suc (4 * codels p)) r c s begins i v (omega arith) in
     (o, record { trail = t; slides = d })
 
 -- the stations from which it looks ahead are all different
-short : {p : Picture} {past t : Trail} {r c : ℕ} {s : PointerState} {o : Slid}
+short : {p : Picture} {past t : Trail} {r c : ℕ} {s : PointerState} {o : Option Landed}
     → Slide p comes_back past r c s t o → Once p past → Inside p r c → Valid s → looks_of o t ≤ 4 * codels p
 unfolding comes_back looks_of
 short (lost h) q i v = omega (arith, once_short q)
@@ -145,7 +145,7 @@ short {p} {r = r} {c = c} {s = s} (move h e d) q i v = short d (goes (on_grid i 
 short (land h e) q i v = once_short (goes (on_grid i v) h q)
 
 -- so it ends within four looks for each codel of the picture
-pub page_slide_short : {p : Picture} {t : Trail} {r c : ℕ} {s : PointerState} {o : Slid}
+pub page_slide_short : {p : Picture} {t : Trail} {r c : ℕ} {s : PointerState} {o : Option Landed}
     → Slide p comes_back [] r c s t o → Inside p r c → Valid s → looks_of o t ≤ 4 * codels p
 page_slide_short d i v = short d begins i v
 
@@ -158,9 +158,9 @@ lands_soon {p} {s = s} i v l =
     omega (arith, n)
 
 -- and where no landing comes edition 2's slide is lost
-pub no_landing_lost : {p : Picture} {r c : ℕ} {s : PointerState} → Inside p r c → Valid s → ((k : ℕ) → LandsIn p r c s.dp k → ⊥) → Ends p comes_back r c s Lost
+pub no_landing_lost : {p : Picture} {r c : ℕ} {s : PointerState} → Inside p r c → Valid s → ((k : ℕ) → LandsIn p r c s.dp k → ⊥) → Ends p comes_back r c s None
 no_landing_lost {p} {r} {c} {s} i v never = by_end (page_slide_total p r c s i v)
   where
-    by_end : (o : Slid) × Ends p comes_back r c s o → Ends p comes_back r c s Lost
-    by_end (Landed a b u, x) = let (k, l, f) = lands_again x.slides in absurd (never k l)
-    by_end (Lost, x) = x
+    by_end : (o : Option Landed) × Ends p comes_back r c s o → Ends p comes_back r c s None
+    by_end (Some o, x) = let (k, l, f) = lands_again x.slides in absurd (never k l)
+    by_end (None, x) = x

@@ -6,17 +6,17 @@ use mathlib.Core.List.{[], ◌∷◌}
 use Prim.Native.Nat.{ℕ, ◌+◌, ◌*◌, ◌<◌, ◌≤◌}
 use native.Mathlib.Omega.{arith}
 use lib.ListN.{length}
+use Rattle.std.specs.Prelude.{Option, Some, None}
+use Rattle.exit.specs.declared.slide.Landed.{Landed}
 use Rattle.base.proofs.Tests.{by_size}
 use Rattle.flow.specs.Pointer.{Valid, turned_once}
 use Rattle.flow.proofs.Order.{valid_turned}
 use Rattle.flow.specs.declared.PointerState.{PointerState}
 use Rattle.picture.specs.Picture.{Picture, Inside, codels}
 use Rattle.exit.specs.declared.slide.Sight.TheVariants.{Shut, White, Coloured}
-use Rattle.exit.specs.declared.slide.Slid.{Slid}
-use Rattle.exit.specs.declared.slide.Slid.TheVariants.{Landed, Lost}
 use Rattle.exit.specs.declared.page_slide.Watch.{Watch}
 use Rattle.exit.specs.Trail.{Station, station, Trail, never_lost, comes_back}
-use Rattle.exit.specs.Slide.{look_of, Slide, turn, move, land, Ends, looks_of}
+use Rattle.exit.specs.Slide.{landed, look_of, Slide, turn, move, land, Ends, looks_of}
 use Rattle.exit.specs.Watched.{begun_at, Met, Noted, here, still, Walks}
 use Rattle.exit.proofs.SlideLaws.{white_inside}
 use Rattle.exit.proofs.Lands.{Lands, lands_only, after_turn, after_move, lands_again, lands_back}
@@ -139,7 +139,7 @@ pub record Watching (p : Picture) (r₀ c₀ : ℕ) (s₀ : PointerState) (r c :
   -- the stations before this one: as it goes on from here, so it ends from there
   pub past : Trail
   pub passed : length past ≡ w.looks
-  pub rest : (t : Trail) (o : Slid) → Slide p never_lost past r c s t o → Slide p never_lost [] r₀ c₀ s₀ t o
+  pub rest : (t : Trail) (o : Option Landed) → Slide p never_lost past r c s t o → Slide p never_lost [] r₀ c₀ s₀ t o
   -- where it lands at all, that is still ahead
   pub ahead : (k : ℕ) → Lands p (station r₀ c₀ s₀) k → w.looks ≤ k
   pub hunt : Hunting p (station r₀ c₀ s₀) w (station r c s)
@@ -177,7 +177,7 @@ module _ {p : Picture} {r₀ c₀ : ℕ} {s₀ : PointerState} {r c : ℕ} {s : 
       let one = lands_only (subst (λ (b : Station). Lands p b i) (S.hunt.kept ∙ met_same m) y) x in
       omega (arith, S.hunt.earlier m.some)
 
-  pub met_again : Met w r c s.dp → Walks p r₀ c₀ s₀ (record { end = Lost; looks = w.looks })
+  pub met_again : Met w r c s.dp → Walks p r₀ c₀ s₀ (record { end = None; looks = w.looks })
   met_again m =
       let x = no_landing_lost S.begin S.began (none_lands m) in
       let (n, l, o, q) = lost_rounds x.slides in
@@ -188,7 +188,7 @@ module _ {p : Picture} {r₀ c₀ : ℕ} {s₀ : PointerState} {r c : ℕ} {s : 
       }
 
   pub walks_lands : {a b : ℕ} {w' : Watch} → Noted w r c s.dp w' → look_of p r c s.dp ≡ Coloured a b
-      → Walks p r₀ c₀ s₀ (record { end = Landed a b s; looks = w'.looks })
+      → Walks p r₀ c₀ s₀ (record { end = Some (landed a b s); looks = w'.looks })
   unfolding looks_of
   walks_lands n e =
       record {
@@ -201,11 +201,11 @@ module _ {p : Picture} {r₀ c₀ : ℕ} {s₀ : PointerState} {r c : ℕ} {s : 
   pub looks_most : w.looks ≤ 3 * (4 * codels p)
   looks_most = by_end (page_slide_total p r₀ c₀ s₀ S.begin S.began)
     where
-      by_end : (o : Slid) × Ends p comes_back r₀ c₀ s₀ o → w.looks ≤ 3 * (4 * codels p)
-      by_end (Landed a b u, x) =
+      by_end : (o : Option Landed) × Ends p comes_back r₀ c₀ s₀ o → w.looks ≤ 3 * (4 * codels p)
+      by_end (Some o, x) =
           let (k, l, f) = lands_again x.slides in
           omega (arith, S.ahead k l, lands_soon S.begin S.began l)
-      by_end (Lost, x) =
+      by_end (None, x) =
           let (m, l, o, q) = lost_rounds x.slides in
           omega (arith, looks_few S.hunt m l o, q, page_slide_short x.slides S.begin S.began)
 
@@ -225,7 +225,7 @@ module _ {p : Picture} {r₀ c₀ : ℕ} {s₀ : PointerState} {r c : ℕ} {s : 
 
     goes : {a b : ℕ} {u : PointerState} → Inside p a b → Valid u → onward p (station r c s) ≡ station a b u
         → ((k : ℕ) → Lands p (station r c s) k → 0 < k)
-        → ((t : Trail) (o : Slid) → Slide p never_lost (station r c s ∷ S.past) a b u t o → Slide p never_lost S.past r c s t o)
+        → ((t : Trail) (o : Option Landed) → Slide p never_lost (station r c s ∷ S.past) a b u t o → Slide p never_lost S.past r c s t o)
         → Watching p r₀ c₀ s₀ a b u w'
     goes i v on later back =
         record {

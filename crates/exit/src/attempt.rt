@@ -5,7 +5,7 @@ ghost use Rattle.exit.specs.Attempt.{Attempt};
 ghost use Rattle.exit.specs.Slide.{Ends};
 ghost use Rattle.exit.specs.Trail.{lost_by};
 
-use crate::slide::{Sight, Slid};
+use crate::slide::{Landed, Sight};
 use base::edition::Edition;
 use flow::PointerState;
 use picture::shape::Shape;
@@ -40,7 +40,7 @@ fn slide(
     row: usize,
     col: usize,
     from: PointerState,
-) -> Slid
+) -> Option<Landed>
     requires { Frames colours.now s × Inside (picture_of colours.now s) row col × Valid from }
     ensures { Ends (picture_of colours.now s) (lost_by edition) row col from result }
 {
@@ -67,18 +67,14 @@ pub fn attempt_from(
         Sight::Shut => Way::Closed,
         Sight::Coloured { row: r, col: c } => Way::Step { row: r, col: c },
         Sight::White { row: r, col: c } => match slide(colours, s, edition, r, c, from) {
-            Slid::Landed {
-                row: a,
-                col: b,
-                state,
-            } => Way::Glide {
+            Some(end) => Way::Glide {
                 row: r,
                 col: c,
-                to_row: a,
-                to_col: b,
-                state,
+                to_row: end.row,
+                to_col: end.col,
+                state: end.state,
             },
-            Slid::Lost => Way::Astray { row: r, col: c },
+            None => Way::Astray { row: r, col: c },
         },
     }
 }

@@ -7,7 +7,7 @@ ghost use Rattle.exit.specs.Slide.{Ends};
 ghost use Rattle.exit.specs.Trail.{comes_back};
 ghost use Rattle.exit.specs.Watched.{begun_at, Met, Noted, most_looks, Walks};
 
-use crate::slide::{Sight, Slid};
+use crate::slide::{Landed, Sight};
 use flow::PointerState;
 use picture::shape::Shape;
 
@@ -27,7 +27,7 @@ struct Watch {
 // Where a slide ends, and how many looks that took.
 #[derive(Clone, Copy)]
 struct Walked {
-    end: Slid,
+    end: Option<Landed>,
     looks: usize,
 }
 
@@ -100,9 +100,8 @@ fn walk(colours: &[u8], s: Shape, row: usize, col: usize, from: PointerState) ->
     'slide: loop {
         let dp = state.dp;
         if meets(watch, at_row, at_col, dp) {
-            let end = Slid::Lost;
             break 'slide Walked {
-                end,
+                end: None,
                 looks: watch.looks,
             };
         }
@@ -116,13 +115,13 @@ fn walk(colours: &[u8], s: Shape, row: usize, col: usize, from: PointerState) ->
                 at_col = c;
             }
             Sight::Coloured { row: r, col: c } => {
-                let end = Slid::Landed {
+                let end = Landed {
                     row: r,
                     col: c,
                     state,
                 };
                 break 'slide Walked {
-                    end,
+                    end: Some(end),
                     looks: watch.looks,
                 };
             }
@@ -131,7 +130,13 @@ fn walk(colours: &[u8], s: Shape, row: usize, col: usize, from: PointerState) ->
 }
 
 // The slide from a white codel, in edition 2.
-pub fn page_slide(colours: &[u8], s: Shape, row: usize, col: usize, from: PointerState) -> Slid
+pub fn page_slide(
+    colours: &[u8],
+    s: Shape,
+    row: usize,
+    col: usize,
+    from: PointerState,
+) -> Option<Landed>
     requires { Frames colours.now s × Inside (picture_of colours.now s) row col × Valid from }
     ensures { Ends (picture_of colours.now s) comes_back row col from result }
 {

@@ -6,7 +6,7 @@ ghost use Rattle.exit.specs.Slide.{look_of, Ends};
 ghost use Rattle.exit.specs.Trail.{eighth_turn};
 
 use colour::palette::{BLACK, WHITE};
-use flow::{Beyond, PointerState};
+use flow::PointerState;
 use picture::shape::Shape;
 
 // A slide is lost at its eighth turn, counted over all of it (rule 5.4).
@@ -20,15 +20,12 @@ pub enum Sight {
     Coloured { row: usize, col: usize },
 }
 
-// Where a slide ends.
+// Where a slide lands, if it is not lost.
 #[derive(Clone, Copy)]
-pub enum Slid {
-    Landed {
-        row: usize,
-        col: usize,
-        state: PointerState,
-    },
-    Lost,
+pub struct Landed {
+    pub row: usize,
+    pub col: usize,
+    pub state: PointerState,
 }
 
 // Looks one codel along dp. The closures of `MOVE_IN` are a choice on dp, in `ahead`, whose test of the bounds is the
@@ -37,8 +34,7 @@ pub fn look(colours: &[u8], s: Shape, row: usize, col: usize, dp: u8) -> Sight
     requires { Frames colours.now s × Inside (picture_of colours.now s) row col }
     ensures { result ≡ look_of (picture_of colours.now s) row col dp }
 {
-    let next = flow::ahead(s.rows, s.cols, row, col, dp);
-    let Beyond::Codel { row: r, col: c } = next else {
+    let Some((r, c)) = flow::ahead(s.rows, s.cols, row, col, dp) else {
         return Sight::Shut;
     };
     let colour = picture::shape::colour_at(colours, s, r, c);
@@ -54,7 +50,13 @@ pub fn look(colours: &[u8], s: Shape, row: usize, col: usize, dp: u8) -> Sight
 // The slide from a white codel, in edition 1: straight moves and turns, left from inside with the landing codel. A move leaves the
 // count of turns as it is, since they are counted over the whole slide; that is also what ends it, as the Rust's
 // `retries`.
-pub fn rust_slide(colours: &[u8], s: Shape, row: usize, col: usize, from: PointerState) -> Slid
+pub fn rust_slide(
+    colours: &[u8],
+    s: Shape,
+    row: usize,
+    col: usize,
+    from: PointerState,
+) -> Option<Landed>
     requires { Frames colours.now s × Inside (picture_of colours.now s) row col × Valid from }
     ensures { Ends (picture_of colours.now s) eighth_turn row col from result }
 {
@@ -64,7 +66,7 @@ pub fn rust_slide(colours: &[u8], s: Shape, row: usize, col: usize, from: Pointe
     let mut turns: u8 = 0;
     'slide: loop {
         if turns == LAST_TURN {
-            break 'slide Slid::Lost;
+            break 'slide None;
         }
         let dp = state.dp;
         match look(colours, s, at_row, at_col, dp) {
@@ -77,11 +79,11 @@ pub fn rust_slide(colours: &[u8], s: Shape, row: usize, col: usize, from: Pointe
                 at_col = c;
             }
             Sight::Coloured { row: r, col: c } => {
-                break 'slide Slid::Landed {
+                break 'slide Some(Landed {
                     row: r,
                     col: c,
                     state,
-                };
+                });
             }
         }
     }

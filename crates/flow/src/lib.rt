@@ -89,42 +89,35 @@ impl PointerState {
     }
 }
 
-// The codel one step along dp, or none at the edge.
-#[derive(Clone, Copy)]
-pub enum Beyond {
-    Codel { row: usize, col: usize },
-    Outside,
-}
-
-// `MOVE_IN`: the wrapping moves of the Rust become tests of the grid's bounds.
-pub fn ahead(rows: usize, cols: usize, row: usize, col: usize, dp: u8) -> Beyond
+// The row and column of the codel one step along dp, or none at the edge. `MOVE_IN`: the wrapping moves of the Rust become tests of the grid's bounds.
+pub fn ahead(rows: usize, cols: usize, row: usize, col: usize, dp: u8) -> Option<(usize, usize)>
     requires { (row < rows) × (col < cols) }
     ensures { result ≡ ahead_of rows cols row col dp }
 {
     match dp {
         0 => {
             if col + 1 < cols {
-                return Beyond::Codel { row, col: col + 1 };
+                return Some((row, col + 1));
             }
-            Beyond::Outside
+            None
         }
         1 => {
             if row + 1 < rows {
-                return Beyond::Codel { row: row + 1, col };
+                return Some((row + 1, col));
             }
-            Beyond::Outside
+            None
         }
         2 => {
             if 0 < col {
-                return Beyond::Codel { row, col: col - 1 };
+                return Some((row, col - 1));
             }
-            Beyond::Outside
+            None
         }
         _ => {
             if 0 < row {
-                return Beyond::Codel { row: row - 1, col };
+                return Some((row - 1, col));
             }
-            Beyond::Outside
+            None
         }
     }
 }

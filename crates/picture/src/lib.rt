@@ -6,14 +6,7 @@
 pub mod shape;
 
 ghost use Rattle.std.specs.Prelude.{◌≡◌};
-ghost use Rattle.picture.specs.Source.{cell_at, get_at};
-
-// What stands at a position: a colour number, or nothing, where it is outside.
-#[derive(Clone, Copy)]
-pub enum Read {
-    Colour(u8),
-    Outside,
-}
+ghost use Rattle.picture.specs.Source.{get_at};
 
 #[derive(Clone, Copy)]
 pub struct PietSource<'a> {
@@ -29,27 +22,18 @@ pub struct Sides {
     pub width: u32,
 }
 
-// The cell with an index, where the slice has it.
-fn cell_at(prog: &[u8], i: usize) -> Read
-    ensures { result ≡ cell_at prog.now i }
-{
-    if i < prog.len() {
-        return Read::Colour(prog[i]);
-    }
-    Read::Outside
-}
-
-// The colour number at a position, for any slice and any numbers.
-pub fn get_at(prog: &[u8], height: u32, width: u32, row: u32, column: u32) -> Read
+// The colour number at a position, if it is inside, for any slice and any numbers.
+pub fn get_at(prog: &[u8], height: u32, width: u32, row: u32, column: u32) -> Option<u8>
     ensures { result ≡ get_at prog.now height width row column }
 {
     if height <= row {
-        return Read::Outside;
+        return None;
     }
     if width <= column {
-        return Read::Outside;
+        return None;
     }
-    cell_at(prog, row as usize * width as usize + column as usize)
+    prog.get(row as usize * width as usize + column as usize)
+        .copied()
 }
 
 impl<'a> PietSource<'a> {
@@ -72,7 +56,7 @@ impl<'a> PietSource<'a> {
         }
     }
 
-    pub fn get(self, row: u32, column: u32) -> Read
+    pub fn get(self, row: u32, column: u32) -> Option<u8>
         ensures { result ≡ get_at self.entry.prog.now self.entry.height self.entry.width row column }
     {
         get_at(self.prog, self.height, self.width, row, column)
@@ -80,7 +64,7 @@ impl<'a> PietSource<'a> {
 }
 
 // From a plain slice and numbers through the struct.
-pub fn read_pixel(prog: &[u8], height: u32, width: u32, row: u32, column: u32) -> Read
+pub fn read_pixel(prog: &[u8], height: u32, width: u32, row: u32, column: u32) -> Option<u8>
     ensures { result ≡ get_at prog.now height width row column }
 {
     PietSource::new(prog, height, width).get(row, column)

@@ -2,7 +2,7 @@
 ghost use Rattle.std.specs.Prelude.{◌≡◌, ◌<◌, ◌≤◌};
 ghost use Rattle.picture.specs.Picture.{ceil, picture_of, framed, Frames, Inside, colour_at};
 
-use crate::{Read, read_pixel};
+use crate::read_pixel;
 
 #[derive(Clone, Copy)]
 pub struct Shape {
@@ -46,9 +46,6 @@ pub fn colour_at(colours: &[u8], s: Shape, row: usize, col: usize) -> u8
     let width = s.width as u32;
     let y = (row * s.codel) as u32;
     let x = (col * s.codel) as u32;
-    let Read::Colour(colour) = read_pixel(colours, height, width, y, x) else {
-        // outside counts as black; a codel of the grid is never outside
-        return 18;
-    };
-    colour
+    // outside counts as black; a codel of the grid is never outside
+    read_pixel(colours, height, width, y, x).unwrap_or(18)
 }

@@ -9,6 +9,8 @@ use native.Mathlib.Omega.{arith}
 use borrow.Author.Tests.{lt-ltb, le-ltb, ltb-true, ltb-false, ne_eqb}
 use lib.Dec.{ltb}
 use lib.ListN.{length, get_or, get_or-map}
+use Rattle.exit.specs.declared.slide.Landed.{Landed}
+use Rattle.std.specs.Prelude.{Some, None, Option}
 use Rattle.base.proofs.Table.{all_at}
 use Rattle.base.specs.declared.edition.Edition.{Edition}
 use Rattle.colour.specs.Palette.{rgb, same, palette, black, white}
@@ -16,7 +18,6 @@ use Rattle.colour.proofs.LookupLaws.{same_bytes}
 use Rattle.colour.specs.Decode as decoding
 use Rattle.colour.specs.Decode.{decode_of}
 use Rattle.flow.specs.declared.PointerState.{PointerState}
-use Rattle.flow.specs.declared.Beyond.TheVariants.{Codel, Outside}
 use Rattle.flow.specs.Pointer.{Valid, attempt_of, flipped, clockwise}
 use Rattle.flow.specs.Neighbour.{ahead_of}
 use Rattle.picture.specs.Picture.{Picture, rows_of, cols_of, codels, colour_at, Sound}
@@ -25,11 +26,9 @@ use Rattle.region.specs.Grid.{grid_of}
 use Rattle.region.specs.Region.{IsMap}
 use Rattle.region.proofs.MapLaws.{map_low}
 use Rattle.exit.specs.declared.slide.Sight.TheVariants.{Shut, White, Coloured}
-use Rattle.exit.specs.declared.slide.Slid.{Slid}
-use Rattle.exit.specs.declared.slide.Slid.TheVariants.{Landed}
 use Rattle.exit.specs.declared.attempt.Way.TheVariants.{Glide}
 use Rattle.exit.specs.Trail.{station, Trail, Rule}
-use Rattle.exit.specs.Slide.{look_of, seen, seen_as, Slide, lost, turn, move, land}
+use Rattle.exit.specs.Slide.{landed, look_of, seen, seen_as, Slide, lost, turn, move, land}
 use Rattle.exit.specs.Leaving.{LeavesBy, behind, reach, side_of, beats, further}
 use Rattle.exit.specs.Opens.{region_at, Tried, Opens, beside, across}
 use Rattle.exit.proofs.Opening.{same_way}
@@ -88,35 +87,35 @@ start_pointers = (refl, refl)
 
 -- one codel along dp, or over the edge (rule 14.6)
 module _ (rows cols r c : ℕ) where
-  pub ahead_right : c + 1 < cols → ahead_of rows cols r c right ≡ Codel r (c + 1)
+  pub ahead_right : c + 1 < cols → ahead_of rows cols r c right ≡ Some (r, c + 1)
   unfolding ahead_of
   ahead_right h = rw (lt-ltb (c + 1) cols h)
 
-  pub ahead_down : r + 1 < rows → ahead_of rows cols r c down ≡ Codel (r + 1) c
+  pub ahead_down : r + 1 < rows → ahead_of rows cols r c down ≡ Some (r + 1, c)
   unfolding ahead_of
   ahead_down h = rw (lt-ltb (r + 1) rows h)
 
-  pub ahead_left : 0 < c → ahead_of rows cols r c left ≡ Codel r (c - 1)
+  pub ahead_left : 0 < c → ahead_of rows cols r c left ≡ Some (r, c - 1)
   unfolding ahead_of
   ahead_left h = rw (lt-ltb 0 c h)
 
-  pub ahead_up : 0 < r → ahead_of rows cols r c up ≡ Codel (r - 1) c
+  pub ahead_up : 0 < r → ahead_of rows cols r c up ≡ Some (r - 1, c)
   unfolding ahead_of
   ahead_up h = rw (lt-ltb 0 r h)
 
-  pub edge_right : c + 1 ≡ cols → ahead_of rows cols r c right ≡ Outside
+  pub edge_right : c + 1 ≡ cols → ahead_of rows cols r c right ≡ None
   unfolding ahead_of
   edge_right h = rw (le-ltb (c + 1) cols (omega arith))
 
-  pub edge_down : r + 1 ≡ rows → ahead_of rows cols r c down ≡ Outside
+  pub edge_down : r + 1 ≡ rows → ahead_of rows cols r c down ≡ None
   unfolding ahead_of
   edge_down h = rw (le-ltb (r + 1) rows (omega arith))
 
-  pub edge_left : c ≡ 0 → ahead_of rows cols r c left ≡ Outside
+  pub edge_left : c ≡ 0 → ahead_of rows cols r c left ≡ None
   unfolding ahead_of
   edge_left h = rw (le-ltb 0 c (omega arith))
 
-  pub edge_up : r ≡ 0 → ahead_of rows cols r c up ≡ Outside
+  pub edge_up : r ≡ 0 → ahead_of rows cols r c up ≡ None
   unfolding ahead_of
   edge_up h = rw (le-ltb 0 r (omega arith))
 
@@ -153,11 +152,11 @@ reaches rows cols i = (refl, refl, refl, refl)
 
 -- black and the edge block the step (rule 14.6); what else is ahead is white, or a coloured block
 module _ (p : Picture) (r c dp : ℕ) where
-  pub edge_blocks : ahead_of (rows_of p) (cols_of p) r c dp ≡ Outside → look_of p r c dp ≡ Shut
+  pub edge_blocks : ahead_of (rows_of p) (cols_of p) r c dp ≡ None → look_of p r c dp ≡ Shut
   unfolding look_of seen
   edge_blocks h = rw h
 
-  module _ {r' c' : ℕ} (h : ahead_of (rows_of p) (cols_of p) r c dp ≡ Codel r' c') where
+  module _ {r' c' : ℕ} (h : ahead_of (rows_of p) (cols_of p) r c dp ≡ Some (r', c')) where
     pub black_blocks : colour_at p r' c' ≡ black → look_of p r c dp ≡ Shut
     unfolding look_of seen seen_as
     black_blocks e = rw (h, e)
@@ -195,11 +194,11 @@ pub ends_after_eight : {p : Picture} {map : List ℕ} {g : Given} {room : RunRoo
 ends_after_eight F l a N = F.completed.1 (l, a, all_shut N)
 
 -- a slide goes on from a station at which it is not lost: straight on over white (rule 14.8)
-pub slides_on : {p : Picture} {rule : Rule} {past t : Trail} {r c r' c' : ℕ} {s : PointerState} {o : Slid} → rule (station r c s ∷ past) ≡ false
+pub slides_on : {p : Picture} {rule : Rule} {past t : Trail} {r c r' c' : ℕ} {s : PointerState} {o : Option Landed} → rule (station r c s ∷ past) ≡ false
     → look_of p r c s.dp ≡ White r' c' → Slide p rule past r c s t o ↔ Slide p rule (station r c s ∷ past) r' c' s t o
 slides_on {p} {rule} {past} {r = r} {c = c} {r' = r'} {c' = c'} h e = (λ d. on d h e, λ d. move h e d)
   where
-    on : {t : Trail} {s : PointerState} {o : Slid} → Slide p rule past r c s t o → rule (station r c s ∷ past) ≡ false → look_of p r c s.dp ≡ White r' c'
+    on : {t : Trail} {s : PointerState} {o : Option Landed} → Slide p rule past r c s t o → rule (station r c s ∷ past) ≡ false → look_of p r c s.dp ≡ White r' c'
         → Slide p rule (station r c s ∷ past) r' c' s t o
     on (lost k) h e = clash (cc)
     on (turn k f d) h e = clash (cc)
@@ -210,11 +209,11 @@ slides_on {p} {rule} {past} {r = r} {c = c} {r' = r'} {c' = c'} h e = (λ d. on 
     on (land k f) h e = clash (cc)
 
 -- at black and at the edge cc flips and dp turns clockwise, and it goes on from where it is
-pub slide_turns : {p : Picture} {rule : Rule} {past t : Trail} {r c : ℕ} {s : PointerState} {o : Slid} → rule (station r c s ∷ past) ≡ false
+pub slide_turns : {p : Picture} {rule : Rule} {past t : Trail} {r c : ℕ} {s : PointerState} {o : Option Landed} → rule (station r c s ∷ past) ≡ false
     → look_of p r c s.dp ≡ Shut → Slide p rule past r c s t o ↔ Slide p rule (station r c s ∷ past) r c (clockwise (flipped s)) t o
 slide_turns {p} {rule} {past} {r = r} {c = c} h e = (λ d. on d h e, λ d. turn h e d)
   where
-    on : {t : Trail} {s : PointerState} {o : Slid} → Slide p rule past r c s t o → rule (station r c s ∷ past) ≡ false → look_of p r c s.dp ≡ Shut
+    on : {t : Trail} {s : PointerState} {o : Option Landed} → Slide p rule past r c s t o → rule (station r c s ∷ past) ≡ false → look_of p r c s.dp ≡ Shut
         → Slide p rule (station r c s ∷ past) r c (clockwise (flipped s)) t o
     on (lost k) h e = clash (cc)
     on (turn k f d) h e = d
@@ -222,15 +221,15 @@ slide_turns {p} {rule} {past} {r = r} {c = c} h e = (λ d. on d h e, λ d. turn 
     on (land k f) h e = clash (cc)
 
 -- a coloured block ends it there, in the present direction
-pub slide_lands : {p : Picture} {rule : Rule} {past t : Trail} {r c r' c' : ℕ} {s : PointerState} {o : Slid} → rule (station r c s ∷ past) ≡ false
-    → look_of p r c s.dp ≡ Coloured r' c' → Slide p rule past r c s t o ↔ ((t ≡ station r c s ∷ past) × (o ≡ Landed r' c' s))
+pub slide_lands : {p : Picture} {rule : Rule} {past t : Trail} {r c r' c' : ℕ} {s : PointerState} {o : Option Landed} → rule (station r c s ∷ past) ≡ false
+    → look_of p r c s.dp ≡ Coloured r' c' → Slide p rule past r c s t o ↔ ((t ≡ station r c s ∷ past) × (o ≡ Some (landed r' c' s)))
 slide_lands {p} {rule} {past} {t} {r} {c} {r'} {c'} {s} {o} h e = (
   λ d. on d h e,
   λ q. subst (λ (x : Trail). Slide p rule past r c s x o) (sym q.0) (subst (Slide p rule past r c s (station r c s ∷ past)) (sym q.1) (land h e)),
 )
   where
-    on : {t : Trail} {s : PointerState} {o : Slid} → Slide p rule past r c s t o → rule (station r c s ∷ past) ≡ false → look_of p r c s.dp ≡ Coloured r' c'
-        → (t ≡ station r c s ∷ past) × (o ≡ Landed r' c' s)
+    on : {t : Trail} {s : PointerState} {o : Option Landed} → Slide p rule past r c s t o → rule (station r c s ∷ past) ≡ false → look_of p r c s.dp ≡ Coloured r' c'
+        → (t ≡ station r c s ∷ past) × (o ≡ Some (landed r' c' s))
     on (lost k) h e = clash (cc)
     on (turn k f d) h e = clash (cc)
     on (move k f d) h e = clash (cc)

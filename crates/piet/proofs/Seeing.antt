@@ -7,8 +7,7 @@ use native.Mathlib.Omega.{arith}
 use borrow.Author.Tests.{le-ltb}
 use lib.Dec.{eqb}
 use lib.ListN.{length, get_or, length-map}
-use Rattle.colour.specs.declared.palette.Found.{Found}
-use Rattle.colour.specs.declared.palette.Found.TheVariants.{Known, Unknown}
+use Rattle.std.specs.Prelude.{Option, Some, None}
 use Rattle.colour.specs.Palette.{Rgb, same, palette, black, white, number_in, colour_of, pixels_of}
 use Rattle.colour.specs.Setting.{blackening}
 use Rattle.colour.specs.Classify.{found, colour_under, colours_under}
@@ -16,27 +15,27 @@ use Rattle.colour.proofs.ClassifyLaws.{length_found}
 use Rattle.cfg.specs.Build.{legal_first}
 
 -- a colour that is found is below n
-abbrev Below : ℕ → Found → Type 0
-Below n (Known c) = c < n
-Below n Unknown = Unit {0}
+abbrev Below : ℕ → Option ℕ → Type 0
+Below n (Some c) = c < n
+Below n None = Unit {0}
 
-either : (b : Bool) (n : ℕ) (x y : Found) → Below n x → Below n y → Below n (cond b x y)
+either : (b : Bool) (n : ℕ) (x y : Option ℕ) → Below n x → Below n y → Below n (cond b x y)
 either true n x y h k = h
 either false n x y h k = k
 
 number_below : (qs : List Rgb) (i n : ℕ) (p : Rgb) → i + length qs ≤ n → Below n (number_in qs i p)
 unfolding number_in
 number_below [] i n p h = tt
-number_below (q ∷ qs) i n p h = either (same q p) n (Known i) (number_in qs (suc i) p) (omega arith) (number_below qs (suc i) n p (omega arith))
+number_below (q ∷ qs) i n p h = either (same q p) n (Some i) (number_in qs (suc i) p) (omega arith) (number_below qs (suc i) n p (omega arith))
 
 colour_below : (p : Rgb) → Below 20 (colour_of p)
 unfolding colour_of
 colour_below p = number_below palette 0 20 p (omega arith)
 
-under_small : (s : ℕ) (f : Found) → Below 20 f → colour_under s f ≤ 19
+under_small : (s : ℕ) (f : Option ℕ) → Below 20 f → colour_under s f ≤ 19
 unfolding colour_under
-under_small s (Known c) h = omega arith
-under_small s Unknown h = go (eqb s blackening)
+under_small s (Some c) h = omega arith
+under_small s None h = go (eqb s blackening)
   where
     go : (b : Bool) → cond b black white ≤ 19
     go true = omega arith
@@ -55,7 +54,7 @@ pub length_under : (pixels : List ℕ) (s n : ℕ) → length pixels ≡ 3 * n �
 unfolding colours_under
 length_under pixels s n h = length-map (found pixels) (colour_under s) ∙ length_found pixels n h
 
-pub first_under : (pixels : List ℕ) (s : ℕ) → 2 < length pixels → colour_under s (get_or (found pixels) 0 Unknown) ≡ get_or (colours_under pixels s) 0 0
+pub first_under : (pixels : List ℕ) (s : ℕ) → 2 < length pixels → colour_under s (get_or (found pixels) 0 None) ≡ get_or (colours_under pixels s) 0 0
 unfolding colours_under found pixels_of
 first_under [] s h = absurd (omega arith)
 first_under (r ∷ []) s h = absurd (omega arith)

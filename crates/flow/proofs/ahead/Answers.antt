@@ -4,12 +4,12 @@ use Prim.Native.Nat.{ℕ, ◌-◌}
 use native.Mathlib.Omega.{arith}
 use lib.Dec.{ltb}
 use borrow.Author.Tests.{lt-ltb, le-ltb}
-use Rattle.flow.specs.declared.Beyond.{Beyond}
+use Rattle.std.specs.Prelude.{Option}
 use Rattle.flow.specs.Neighbour.{ahead_of, or_outside}
 use Rattle.flow.proofs.NeighbourLaws.{ahead_up}
 use Rattle.flow.proofs.ahead.Goals as goal
 
-at-dp : (f : ℕ → Beyond) {x : Beyond} {d k : ℕ} → d ≡ k → x ≡ f k → x ≡ f d
+at-dp : (f : ℕ → Option (ℕ × ℕ)) {x : Option (ℕ × ℕ)} {d k : ℕ} → d ≡ k → x ≡ f k → x ≡ f d
 at-dp f {x} e h = subst (λ (n : ℕ). x ≡ f n) (sym e) h
 
 pub returns-then-col-cols : goal.returns-then-col-cols

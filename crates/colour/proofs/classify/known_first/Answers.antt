@@ -1,32 +1,22 @@
-use mathlib.Core.Path.{◌∙◌, sym, refl}
+use mathlib.Core.Path.{◌∙◌, sym, ap}
 use Prim.Native.Nat.{◌<◌}
 use native.Mathlib.Omega.{arith}
+use Rattle.std.specs.Prelude.{is_some}
 use Rattle.colour.specs.Classify.{found}
 use Rattle.colour.proofs.ClassifyLaws.{length_found}
 use Rattle.colour.proofs.FirstUnknown.{goes_on, stops, known_most}
 use Rattle.colour.proofs.StretchLaws.{known_through}
 use Rattle.colour.proofs.classify.known_first.Goals as goal
 
-pub loop-i-init : goal.loop-i-init
-loop-i-init c = (omega arith, omega arith)
-
-pub alike-end-requires : goal.alike-end-requires
-alike-end-requires c = (omega arith, c.requires)
-
-pub found_in-f-requires : goal.found_in-f-requires
-found_in-f-requires c = ((refl, refl), omega arith)
-
-pub returns-in-Unknown : goal.returns-in-Unknown
-returns-in-Unknown c =
+pub returns-then-is_none : goal.returns-then-is_none
+returns-then-is_none c =
     let fs = found c.args.pixels.now in
-    let i = c.loop-i.i in
-    omega (arith, stops fs i (sym c.found_in-f.ensures ∙ c.in-Unknown.is))
+    omega (arith, stops fs c.loop-i.i (sym (ap is_some c.found_in.ensures) ∙ c.if-is_none.ensures))
 
 pub loop-i-preserved-then-end-i : goal.loop-i-preserved-then-end-i
 loop-i-preserved-then-end-i c =
     let fs = found c.args.pixels.now in
-    let l = c.loop-i in
-    (omega arith, goes_on fs l.i _ (sym c.found_in-f.ensures ∙ c.in_default.is) l.invariant.1)
+    (omega arith, goes_on fs c.loop-i.i (sym (ap is_some c.found_in.ensures) ∙ c.if-is_none.ensures) c.loop-i.invariant.1)
 
 pub loop-i-smaller : goal.loop-i-smaller
 loop-i-smaller c =

@@ -3,7 +3,7 @@ use mathlib.Core.List.{List, map}
 use Prim.Native.Nat.{ℕ, ◌<◌}
 use native.Mathlib.Omega.{arith}
 use lib.ListN.{length, set, length-set, length-map}
-use Rattle.colour.specs.declared.palette.Found.TheVariants.{Unknown}
+use Rattle.std.specs.Prelude.{None}
 use Rattle.colour.specs.Classify.{found, colour_under, colours_under}
 use Rattle.base.proofs.LentLaws.{write_turn, all_written, map_at}
 use Rattle.colour.proofs.ClassifyLaws.{length_found}
@@ -36,7 +36,7 @@ loop-i-preserved-then-end-i c =
             ∙ write_turn w c.args.colours.now l.i 0 (omega arith) (omega arith) c.colour_under.result
             (c.colour_under.ensures
             ∙ ap (colour_under c.args.setting) c.found_in-f.ensures
-            ∙ sym (map_at (colour_under c.args.setting) fs l.i Unknown 0 (omega arith))),
+            ∙ sym (map_at (colour_under c.args.setting) fs l.i None 0 (omega arith))),
       ),
     )
 

@@ -20,14 +20,14 @@ returns-in-Shut c = shut (sym c.look.ensures ∙ c.in-Shut.is)
 pub returns-in-Coloured : goal.returns-in-Coloured
 returns-in-Coloured c = step (sym c.look.ensures ∙ c.in-Coloured.is)
 
-pub returns-in-Landed : goal.returns-in-Landed
-returns-in-Landed c =
+pub returns-in-Some : goal.returns-in-Some
+returns-in-Some c =
     let pic : Picture = picture_of c.args.colours.now c.args.s in
     let white : look_of pic c.args.row c.args.col c.args.from.dp ≡ White c.in-White.r c.in-White.c = sym c.look.ensures ∙ c.in-White.is in
-    glide white (subst (Ends pic (lost_by c.args.edition) _ _ c.args.from) c.in-Landed.is c.slide.ensures)
+    glide white (subst (Ends pic (lost_by c.args.edition) _ _ c.args.from) c.in-Some.is c.slide.ensures)
 
-pub returns-in-Lost : goal.returns-in-Lost
-returns-in-Lost c =
+pub returns-in-None : goal.returns-in-None
+returns-in-None c =
     let pic : Picture = picture_of c.args.colours.now c.args.s in
     let white : look_of pic c.args.row c.args.col c.args.from.dp ≡ White c.in-White.r c.in-White.c = sym c.look.ensures ∙ c.in-White.is in
-    lost white (subst (Ends pic (lost_by c.args.edition) _ _ c.args.from) c.in-Lost.is c.slide.ensures)
+    lost white (subst (Ends pic (lost_by c.args.edition) _ _ c.args.from) c.in-None.is c.slide.ensures)
