@@ -18,7 +18,7 @@ use interpreter::Ended;
 use job::{Job, Parts};
 use piet::run_picture::{Pictured, run_picture};
 use report::{Figures, put_refusal, put_result};
-use table::{COLOUR, FIRST_COLUMN, FIRST_ROW, row_cell};
+use table::{Field, row_cell};
 
 // Room for the longest text: 256 values and 256 outputs.
 const ROOM: usize = 16384;
@@ -45,9 +45,9 @@ pub fn label_region(rows: &[u32], region: usize, out: &mut [u8]) -> usize
     requires { HasLabel rows.now region × (22 ≤ length out.old) }
     ensures { Starts out.new result (label_in rows.now region) × (result ≤ 22) × (out.new ≡ lent (padded (label_in rows.now region)) out.old) }
 {
-    let colour = rows[row_cell(region, COLOUR)];
-    let row = rows[row_cell(region, FIRST_ROW)];
-    let column = rows[row_cell(region, FIRST_COLUMN)];
+    let colour = rows[row_cell(region, Field::Colour)];
+    let row = rows[row_cell(region, Field::FirstRow)];
+    let column = rows[row_cell(region, Field::FirstColumn)];
     put_label(colour, row, column, out)
 }
 

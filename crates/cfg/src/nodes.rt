@@ -3,7 +3,7 @@ ghost use Rattle.std.specs.Prelude.{◌≡◌, ◌+◌, ◌<◌, ◌≤◌, leng
 ghost use Rattle.table.specs.Layout.{rows_room, exits_room};
 ghost use Rattle.cfg.specs.Search.{is_node, Keeps, Zeros, Cleared};
 
-use table::{COLOUR, MARK, exit_cell, row_cell};
+use table::{Field, exit_cell, row_cell};
 
 // Whether region r is marked and not white (19).
 fn is_node(rows: &[u32], r: usize) -> bool
@@ -11,10 +11,10 @@ fn is_node(rows: &[u32], r: usize) -> bool
     requires r_bound { r < 65536 }
     ensures { result ≡ is_node rows.now r }
 {
-    if rows[row_cell(r, COLOUR)] == 19 {
+    if rows[row_cell(r, Field::Colour)] == 19 {
         return false;
     }
-    rows[row_cell(r, MARK)] != 0
+    rows[row_cell(r, Field::Mark)] != 0
 }
 
 // Sets the eight exits of region r to 0.
@@ -41,7 +41,7 @@ fn keep_region(r: usize, rows: &mut [u32], exits: &mut [u32])
     if is_node(rows, r) {
         return;
     }
-    let cell = row_cell(r, MARK);
+    let cell = row_cell(r, Field::Mark);
     rows[cell] = 0;
     clear_exits(r, exits);
 }

@@ -15,7 +15,7 @@ use colour::decode::{PairTable, decode_in, pair_table};
 use exit::attempt::{Way, attempt_from};
 use flow::PointerState;
 use picture::shape::{Shape, colour_at};
-use table::{LOST_SLIDE, MARK, exit_cell, exit_number, row_cell, wide};
+use table::{Field, LOST_SLIDE, exit_cell, exit_number, row_cell, wide};
 
 // Marks region q and puts it at the queue's tail, where it has no mark. Returns the new tail.
 fn visit(q: usize, rows: &mut [u32], work: &mut [u32], tail: usize) -> usize
@@ -23,7 +23,7 @@ fn visit(q: usize, rows: &mut [u32], work: &mut [u32], tail: usize) -> usize
     requires q_in_bounds { q < length work.old }
     ensures { Visit q rows.old work.old tail rows.new work.new result }
 {
-    let cell = row_cell(q, MARK);
+    let cell = row_cell(q, Field::Mark);
     if rows[cell] != 0 {
         return tail;
     }

@@ -7,7 +7,7 @@ ghost use Rattle.interpreter.specs.Forever.{closed, onward, numbered, answer};
 use crate::Forever;
 use crate::validity::valid;
 use base::edition::Edition;
-use table::{MARK, exit_cell, row_cell};
+use table::{Field, exit_cell, row_cell};
 
 // Whether all eight exits of a region are 0.
 fn closed(exits: &[u32], region: usize) -> bool
@@ -31,7 +31,7 @@ fn onward(rows: &[u32], exits: &[u32], region: usize) -> bool
     requires { (region < 65536) × (rows_room (region + 1) ≤ length rows.now) × (exits_room (region + 1) ≤ length exits.now) }
     ensures { result ≡ onward rows.now exits.now region }
 {
-    let cell = row_cell(region, MARK);
+    let cell = row_cell(region, Field::Mark);
     let mark = rows[cell];
     if mark == 0 {
         return true;

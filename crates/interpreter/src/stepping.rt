@@ -12,7 +12,7 @@ ghost use Rattle.interpreter.specs.Moving.{Gone, Stepped};
 use crate::State;
 use flow::PointerState;
 use machine::{Done, Stop, Terms};
-use table::{LOST_SLIDE, SIZE, exit_cell, instruction_of, row_cell, state_of, target_of};
+use table::{Field, LOST_SLIDE, exit_cell, instruction_of, row_cell, state_of, target_of};
 
 // What a step comes to: the place that it reaches, and the exit by which it does.
 #[derive(Clone, Copy)]
@@ -59,7 +59,7 @@ fn go_through(
     ensures { (exits : List ℕ) → Gone n rows.now exits (given terms input.now) w (slices stack.old kinds.old values.old) at (slices stack.new kinds.new values.new) result }
 {
     let region = at.region as usize;
-    let cell = row_cell(region, SIZE);
+    let cell = row_cell(region, Field::Size);
     let size = rows[cell];
     let core = at.core;
     let target = target_of(w);

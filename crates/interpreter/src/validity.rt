@@ -5,7 +5,7 @@ ghost use Rattle.table.specs.ExitNumber.{largest_in};
 ghost use Rattle.interpreter.specs.Table.{any, wrong_mark, wrong_exit, wrong_exits, valid_of};
 
 use base::edition::Edition;
-use table::{LARGEST_EXIT, LOST_SLIDE, MARK, exits_room, row_cell, rows_room, target_of};
+use table::{Field, LARGEST_EXIT, LOST_SLIDE, exits_room, row_cell, rows_room, target_of};
 
 // The number of the refusal.
 pub const WRONG_TABLE: u32 = 10;
@@ -61,7 +61,7 @@ fn any_wrong_mark(rows: &[u32], n: usize) -> bool
 {
     let mut i = 0;
     while i < n {
-        let cell = row_cell(i, MARK);
+        let cell = row_cell(i, Field::Mark);
         let mark = rows[cell];
         if 1 < mark {
             return true;

@@ -2,7 +2,7 @@
 // the node mark is left 0: the nodes are found later.
 ghost use Rattle.std.specs.Prelude.{◌≡◌, ◌*◌, ◌≤◌, ◌<◌, length, get_or, set, drop};
 ghost use Rattle.picture.specs.Picture.{Frames};
-ghost use Rattle.table.specs.Layout.{row_cell, size_field, rows_room};
+ghost use Rattle.table.specs.Layout.{field_number, row_cell, size_field, rows_room};
 ghost use Rattle.region.specs.Grid.{grid_at};
 ghost use Rattle.region.specs.Region.{IsMap};
 ghost use Rattle.region.specs.Rows.{IsTable};
@@ -11,13 +11,13 @@ ghost use Rattle.region.specs.Steps.{begun, Noted};
 use crate::codels::codel_colour;
 use base::fill::fill_u32;
 use picture::shape::Shape;
-use table::{COLOUR, FIRST_COLUMN, FIRST_ROW, SIZE, row_cell, rows_room};
+use table::{Field, row_cell, rows_room};
 
 // Stores a number in a field of region r's row.
-fn set_field(rows: &mut [u32], r: usize, field: usize, v: u32)
-    requires r_bound { (r ≤ 65536) × (field < 5) }
-    requires field_in_bounds { row_cell r field < length rows.old }
-    ensures { rows.new ≡ set rows.old (row_cell r field) v }
+fn set_field(rows: &mut [u32], r: usize, field: Field, v: u32)
+    requires r_bound { r ≤ 65536 }
+    requires field_in_bounds { row_cell r (field_number field) < length rows.old }
+    ensures { rows.new ≡ set rows.old (row_cell r (field_number field)) v }
 {
     let at = row_cell(r, field);
     rows[at] = v;
@@ -36,10 +36,10 @@ fn begin_row(colours: &[u8], s: Shape, i: usize, r: usize, rows: &mut [u32])
     let colour = codel_colour(colours, s, i);
     let row = i / cols * s.codel;
     let col = i % cols * s.codel;
-    set_field(rows, r, COLOUR, colour as u32);
-    set_field(rows, r, SIZE, 1);
-    set_field(rows, r, FIRST_ROW, row as u32);
-    set_field(rows, r, FIRST_COLUMN, col as u32);
+    set_field(rows, r, Field::Colour, colour as u32);
+    set_field(rows, r, Field::Size, 1);
+    set_field(rows, r, Field::FirstRow, row as u32);
+    set_field(rows, r, Field::FirstColumn, col as u32);
 }
 
 // Counts codel i in its region's row. A row of size 0 has had no codel, so codel i, the codels being
@@ -54,7 +54,7 @@ fn note(colours: &[u8], s: Shape, i: usize, map: &[u32], rows: &mut [u32])
     ensures { Noted (grid_at colours.now s) s.codel i (get_or map.now i 0) rows.old rows.new }
 {
     let r = map[i] as usize;
-    let at = row_cell(r, SIZE);
+    let at = row_cell(r, Field::Size);
     let size = rows[at];
     if size != 0 {
         rows[at] = size + 1;

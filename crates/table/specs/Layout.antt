@@ -1,5 +1,7 @@
 -- Where a region's row and exits stand (rules 7.2, 7.3). Assumes nothing.
 use Rattle.std.specs.Prelude.{List, ℕ, ◌+◌, ◌*◌, get_or}
+use Rattle.table.specs.declared.Field.{Field}
+use Rattle.table.specs.declared.Field.TheVariants.{Colour, Size, FirstRow, FirstColumn, Mark}
 
 -- the five cells of a row, in their order (rule 7.2); the mark is 1 for a node, else 0
 abbrev pub colour_field : ℕ
@@ -16,6 +18,14 @@ column_field = 3
 
 abbrev pub mark_field : ℕ
 mark_field = 4
+
+-- the fields as the code has them
+abbrev pub field_number : Field → ℕ
+field_number Colour = colour_field
+field_number Size = size_field
+field_number FirstRow = row_field
+field_number FirstColumn = column_field
+field_number Mark = mark_field
 
 abbrev pub row_cell : ℕ → ℕ → ℕ
 row_cell region field = region * 5 + field

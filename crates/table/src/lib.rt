@@ -3,19 +3,18 @@
 #![tactic(auto)]
 
 ghost use Rattle.std.specs.Prelude.{◌≡◌, ◌<◌, ◌≤◌};
-ghost use Rattle.table.specs.Layout.{row_cell, exit_cell, rows_room, exits_room};
+ghost use Rattle.table.specs.Layout.{field_number, row_cell, exit_cell, rows_room, exits_room};
 ghost use Rattle.table.specs.ExitNumber.{exit_number, target_of, state_of, instruction_of};
 
-// The fields of a row.
-pub const COLOUR: usize = 0;
-
-pub const SIZE: usize = 1;
-
-pub const FIRST_ROW: usize = 2;
-
-pub const FIRST_COLUMN: usize = 3;
-
-pub const MARK: usize = 4;
+// The fields of a row, in their order.
+#[derive(Clone, Copy)]
+pub enum Field {
+    Colour,
+    Size,
+    FirstRow,
+    FirstColumn,
+    Mark,
+}
 
 // The largest exit number, and one above it: in edition 2 the exit of a slide that is lost (rule 16.5).
 pub const LARGEST_EXIT: u32 = 9437184;
@@ -23,11 +22,11 @@ pub const LARGEST_EXIT: u32 = 9437184;
 pub const LOST_SLIDE: u32 = 9437185;
 
 // The cell of a field of region r's row.
-pub fn row_cell(r: usize, field: usize) -> usize
-    requires { (r ≤ 65536) × (field < 5) }
-    ensures { result ≡ row_cell r field }
+pub fn row_cell(r: usize, field: Field) -> usize
+    requires { r ≤ 65536 }
+    ensures { result ≡ row_cell r (field_number field) }
 {
-    r * 5 + field
+    r * 5 + field as usize
 }
 
 // The cell of region r's exit in a state.

@@ -5,14 +5,14 @@ ghost use Rattle.visits.specs.Visits.{never_entered};
 ghost use Rattle.visits.specs.Counted.{Lists};
 
 use base::fill::fill_u32;
-use table::{MARK, row_cell};
+use table::{Field, row_cell};
 
 // Whether a region is a node that was never entered.
 fn never_entered(rows: &[u32], visits: &[u64], region: usize) -> bool
     requires { (region < 65536) × (rows_room (region + 1) ≤ length rows.now) × (region < length visits.now) }
     ensures { result ≡ never_entered rows.now (λ i. get_or visits.now i 0) region }
 {
-    let cell = row_cell(region, MARK);
+    let cell = row_cell(region, Field::Mark);
     let mark = rows[cell];
     if mark != 1 {
         return false;

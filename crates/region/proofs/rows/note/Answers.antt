@@ -7,7 +7,7 @@ use Rattle.region.proofs.rows.note.Goals as goal
 pub row_cell-at-requires : goal.row_cell-at-requires
 row_cell-at-requires c =
     let the-pre = c.requires in
-    (omega (arith, frames_few the-pre.frames), omega arith)
+    omega (arith, frames_few the-pre.frames)
 
 pub returns-then-size-ne0 : goal.returns-then-size-ne0
 returns-then-size-ne0 c =
