@@ -115,22 +115,3 @@ module _ {p : Picture} {map : List ℕ} {r j : ℕ} (s : ℕ) (G : Grounds p map
       let ef' : from ≡ codel_colour p j = rw (ei, ec) at ef in
       let n' : v ≡ way_number e p map (codel_colour p j) s w = rw ef' at n in
       tries G f Q long h l a' inside n' d
-
--- what the next of the eight attempts asks
-pub next_needs : {F : Type 0} {e : Edition} {p : Picture} {map : List ℕ} {r k : ℕ} {rows exits work : List ℕ} {tail : ℕ} {rows' exits' work' : List ℕ} {tail' : ℕ}
-    → Taken e p map exits work r → Several e p map r k rows exits work tail rows' exits' work' tail' → k < 8 → F
-    → Grounds p map × (Found e p map r × (Queue e p map rows' work' tail' × (LeavesBy map (rows_of p) (cols_of p) (of_number k) r (exit_at exits' r k)
-    × ((length work' ≡ codels p) × ((exits_room (r + 1) ≤ length exits') × ((r < 65536) × ((k < 8) × F)))))))
-next_needs {r = r} {k = k} T W h f = (
-  T.grounds,
-  (
-    T.found,
-    (
-      W.onward.queue,
-      (
-        rw (W.same r k h (λ e. omega arith)) (T.leaving k h),
-        (W.onward.work_length ∙ T.work_long, (omega (arith, W.exits_length, T.exits_long), (T.few, (h, f)))),
-      ),
-    ),
-  ),
-)

@@ -1,13 +1,15 @@
 // Building: its tests, and then the table.
 ghost use Rattle.std.specs.Prelude.{◌≡◌, ◌*◌, ◌<◌, ◌≤◌, length};
-ghost use Rattle.picture.specs.Picture.{picture, picture_of, ceil, Frames};
+ghost use Rattle.picture.specs.Codels.{picture_in};
+ghost use Rattle.picture.specs.Picture.{picture, ceil};
 ghost use Rattle.cfg.specs.Build.{numbered, legal_first, short, refusal, Enough, Written, Outcome};
 
 use crate::filling::fill_table;
 use base::edition::{Edition, edition_of, unknown_edition};
 use base::limits::wrong_side;
 use colour::palette::WHITE;
-use picture::shape::{Shape, shape_of};
+use picture::grid::CodelGrid;
+use picture::shape::shape_of;
 use table::{exits_room, rows_room};
 
 // What a call answers: done, with the count of regions, or a refusal.
@@ -114,24 +116,21 @@ fn check(
 
 // Writes the table to the beginnings of slices that are long enough.
 fn write_table(
-    colours: &[u8],
-    s: Shape,
+    grid: CodelGrid,
     edition: Edition,
     map: &mut [u32],
     rows: &mut [u32],
     exits: &mut [u32],
     work: &mut [u32],
 ) -> usize
-    requires enough { Enough (picture_of colours.now s) (length map.old) (length rows.old) (length exits.old) (length work.old) }
-    requires frames { Frames colours.now s }
-    ensures { Written edition (picture_of colours.now s) map.old rows.old exits.old work.old map.new rows.new exits.new work.new result }
+    requires { Enough (picture_in grid) (length map.old) (length rows.old) (length exits.old) (length work.old) }
+    ensures { Written edition (picture_in grid.entry) map.old rows.old exits.old work.old map.new rows.new exits.new work.new result }
 {
-    let count = s.rows * s.cols;
+    let count = grid.shape.rows * grid.shape.cols;
     let of_rows = rows_room(count);
     let of_exits = exits_room(count);
     fill_table(
-        colours,
-        s,
+        grid,
         edition,
         &mut map[..count],
         &mut rows[..of_rows],
@@ -167,9 +166,10 @@ pub fn build(
         work.len(),
     );
     if let Built::Done { regions: _ } = answer {
-        let s = shape_of(height, width, codel);
+        let shape = shape_of(height, width, codel);
+        let grid = CodelGrid { colours, shape };
         let known = edition_of(edition);
-        let n = write_table(colours, s, known, map, rows, exits, work);
+        let n = write_table(grid, known, map, rows, exits, work);
         return Built::Done { regions: n };
     }
     answer

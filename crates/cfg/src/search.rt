@@ -3,7 +3,8 @@
 ghost use Rattle.std.specs.Prelude.{◌≡◌, ◌+◌, ◌*◌, ◌/◌, ◌%◌, ◌<◌, ◌≤◌, length, get_or};
 ghost use Rattle.colour.specs.Lookup.{DecodesPairs};
 ghost use Rattle.flow.specs.Pointer.{of_number};
-ghost use Rattle.picture.specs.Picture.{picture_of, rows_of, cols_of, codels, Frames};
+ghost use Rattle.picture.specs.Codels.{picture_in};
+ghost use Rattle.picture.specs.Picture.{rows_of, cols_of, codels};
 ghost use Rattle.table.specs.ExitNumber.{exit_number};
 ghost use Rattle.table.specs.Layout.{exits_room, exit_at};
 ghost use Rattle.exit.specs.Leaving.{LeavesBy};
@@ -14,7 +15,7 @@ use base::edition::Edition;
 use colour::decode::{PairTable, decode_in, pair_table};
 use exit::attempt::{Way, attempt_from};
 use flow::PointerState;
-use picture::shape::{Shape, colour_at};
+use picture::grid::CodelGrid;
 use table::{Field, LOST_SLIDE, exit_cell, exit_number, row_cell, wide};
 
 // Marks region q and puts it at the queue's tail, where it has no mark. Returns the new tail.
@@ -54,22 +55,20 @@ fn visit_at(
 
 // Visits the regions that a way adds.
 fn queue_way(
-    colours: &[u8],
-    s: Shape,
+    grid: CodelGrid,
     map: &[u32],
     way: Way,
     rows: &mut [u32],
     work: &mut [u32],
     tail: usize,
 ) -> usize
-    requires grounds { Grounds (picture_of colours.now s) map.now }
-    requires in_grid { InGrid (picture_of colours.now s) way }
+    requires grounds { Grounds (picture_in grid) map.now }
+    requires in_grid { InGrid (picture_in grid) way }
     requires room { Room rows.old work.old tail }
-    requires work_len { length work.old ≡ codels (picture_of colours.now s) }
-    requires frames { Frames colours.now s }
-    ensures { Queued map.now (cols_of (picture_of colours.now s)) rows.old work.old tail way rows.new work.new result }
+    requires work_len { length work.old ≡ codels (picture_in grid) }
+    ensures { Queued map.now (cols_of (picture_in grid.entry)) rows.old work.old tail way rows.new work.new result }
 {
-    let cols = s.cols;
+    let cols = grid.shape.cols;
     match way {
         Way::Closed => tail,
         Way::Step { row, col } => visit_at(map, cols, row, col, rows, work, tail),
@@ -109,8 +108,7 @@ fn lost_exit(edition: Edition) -> u32
 
 // The exit number of a way from a region of the colour from, in a state.
 fn way_number(
-    colours: &[u8],
-    s: Shape,
+    grid: CodelGrid,
     edition: Edition,
     map: &[u32],
     pairs: &PairTable,
@@ -118,19 +116,18 @@ fn way_number(
     state: u8,
     way: Way,
 ) -> u32
-    requires grounds { Grounds (picture_of colours.now s) map.now }
-    requires in_grid { InGrid (picture_of colours.now s) way }
+    requires grounds { Grounds (picture_in grid) map.now }
+    requires in_grid { InGrid (picture_in grid) way }
     requires state_bound { state < 8 }
-    requires frames { Frames colours.now s }
     requires decodes_pairs { DecodesPairs pairs.now }
-    ensures { result ≡ way_number edition (picture_of colours.now s) map.now from state way }
+    ensures { result ≡ way_number edition (picture_in grid.entry) map.now from state way }
 {
-    let cols = s.cols;
+    let cols = grid.shape.cols;
     match way {
         Way::Closed => 0,
         Way::Astray { row, col } => lost_exit(edition),
         Way::Step { row, col } => {
-            let to = colour_at(colours, s, row, col);
+            let to = grid.colour_at(row, col);
             let instruction = decode_in(pairs, from, to);
             exit_to(map, row * cols + col, state, instruction)
         }
@@ -150,8 +147,7 @@ fn way_number(
 // Settles the exit of region r in a state: its cell, which has the codel to leave by, gets the exit
 // number, and the regions that the attempt adds are queued.
 fn try_state(
-    colours: &[u8],
-    s: Shape,
+    grid: CodelGrid,
     edition: Edition,
     map: &[u32],
     pairs: &PairTable,
@@ -162,34 +158,32 @@ fn try_state(
     work: &mut [u32],
     tail: usize,
 ) -> usize
-    requires grounds { Grounds (picture_of colours.now s) map.now }
-    requires found { Found edition (picture_of colours.now s) map.now r }
-    requires queue { Queue edition (picture_of colours.now s) map.now rows.old work.old tail }
-    requires leaves_by { LeavesBy map.now (rows_of (picture_of colours.now s)) (cols_of (picture_of colours.now s)) (of_number state) r (exit_at exits.old r state) }
-    requires work_len { length work.old ≡ codels (picture_of colours.now s) }
+    requires grounds { Grounds (picture_in grid) map.now }
+    requires found { Found edition (picture_in grid) map.now r }
+    requires queue { Queue edition (picture_in grid) map.now rows.old work.old tail }
+    requires leaves_by { LeavesBy map.now (rows_of (picture_in grid)) (cols_of (picture_in grid)) (of_number state) r (exit_at exits.old r state) }
+    requires work_len { length work.old ≡ codels (picture_in grid) }
     requires r_in_bounds { exits_room (r + 1) ≤ length exits.old }
     requires r_bound { r < 65536 }
     requires state_bound { state < 8 }
-    requires frames { Frames colours.now s }
     requires decodes_pairs { DecodesPairs pairs.now }
-    ensures { Tries edition (picture_of colours.now s) map.now r state rows.old exits.old work.old tail rows.new exits.new work.new result }
+    ensures { Tries edition (picture_in grid.entry) map.now r state rows.old exits.old work.old tail rows.new exits.new work.new result }
 {
     let cell = exit_cell(r, state as usize);
-    let cols = s.cols;
+    let cols = grid.shape.cols;
     let i = wide(exits[cell]);
     let row = i / cols;
     let col = i % cols;
-    let from = colour_at(colours, s, row, col);
+    let from = grid.colour_at(row, col);
     let p = PointerState::of_number(state);
-    let way = attempt_from(colours, s, edition, row, col, p);
-    exits[cell] = way_number(colours, s, edition, map, pairs, from, state, way);
-    queue_way(colours, s, map, way, rows, work, tail)
+    let way = attempt_from(grid, edition, row, col, p);
+    exits[cell] = way_number(grid, edition, map, pairs, from, state, way);
+    queue_way(grid, map, way, rows, work, tail)
 }
 
 // Settles the eight exits of region r.
 fn try_states(
-    colours: &[u8],
-    s: Shape,
+    grid: CodelGrid,
     edition: Edition,
     map: &[u32],
     pairs: &PairTable,
@@ -199,18 +193,15 @@ fn try_states(
     work: &mut [u32],
     tail: usize,
 ) -> usize
-    requires taken { Taken edition (picture_of colours.now s) map.now exits.old work.old r }
-    requires queue { Queue edition (picture_of colours.now s) map.now rows.old work.old tail }
-    requires frames { Frames colours.now s }
+    requires taken { Taken edition (picture_in grid) map.now exits.old work.old r }
+    requires queue { Queue edition (picture_in grid) map.now rows.old work.old tail }
     requires decodes_pairs { DecodesPairs pairs.now }
-    ensures { Several edition (picture_of colours.now s) map.now r 8 rows.old exits.old work.old tail rows.new exits.new work.new result }
+    ensures { Several edition (picture_in grid.entry) map.now r 8 rows.old exits.old work.old tail rows.new exits.new work.new result }
 {
     let mut end = tail;
     let mut state: u8 = 0;
     while state < 8 {
-        end = try_state(
-            colours, s, edition, map, pairs, r, state, rows, exits, work, end,
-        );
+        end = try_state(grid, edition, map, pairs, r, state, rows, exits, work, end);
         state += 1;
     }
     end
@@ -218,24 +209,22 @@ fn try_states(
 
 // Marks the regions found from region 0, white ones too, and settles their exits.
 pub fn search(
-    colours: &[u8],
-    s: Shape,
+    grid: CodelGrid,
     edition: Edition,
     map: &[u32],
     rows: &mut [u32],
     exits: &mut [u32],
     work: &mut [u32],
 )
-    requires ready { Ready (picture_of colours.now s) map.now rows.old exits.old work.old }
-    requires frames { Frames colours.now s }
-    ensures { Searched edition (picture_of colours.now s) map.now rows.old exits.old rows.new exits.new }
+    requires { Ready (picture_in grid) map.now rows.old exits.old work.old }
+    ensures { Searched edition (picture_in grid.entry) map.now rows.old exits.old rows.new exits.new }
 {
     let pairs = pair_table();
     let mut tail = visit(0, rows, work, 0);
     let mut head = 0;
     while head < tail {
         let r = wide(work[head]);
-        tail = try_states(colours, s, edition, map, &pairs, r, rows, exits, work, tail);
+        tail = try_states(grid, edition, map, &pairs, r, rows, exits, work, tail);
         head += 1;
     }
 }

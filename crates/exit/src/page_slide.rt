@@ -2,14 +2,15 @@
 ghost use Rattle.std.specs.Prelude.{◌≡◌, ◌+◌, ◌*◌, ◌≤◌};
 ghost use Rattle.base.specs.Decides.{Decides};
 ghost use Rattle.flow.specs.Pointer.{Valid};
-ghost use Rattle.picture.specs.Picture.{picture_of, Frames, Inside};
+ghost use Rattle.picture.specs.Codels.{picture_in};
+ghost use Rattle.picture.specs.Picture.{Inside};
 ghost use Rattle.exit.specs.Slide.{Ends};
 ghost use Rattle.exit.specs.Trail.{comes_back};
 ghost use Rattle.exit.specs.Watched.{begun_at, Met, Noted, most_looks, Walks};
 
 use crate::slide::{Landed, Sight};
 use flow::PointerState;
-use picture::shape::Shape;
+use picture::grid::CodelGrid;
 
 // One station of the slide that is kept, how many looks were taken, and the count of looks at which the present station
 // is kept in its place: the powers of two (Brent). Once a power is no less than the way to the loop, nor than the loop, the
@@ -89,9 +90,9 @@ fn noted(w: Watch, row: usize, col: usize, dp: u8) -> Watch
 
 // The slide from a white codel, watched. A codel with a dp decides where it goes on, so a slide that meets a station
 // again never lands, and one that never lands meets the kept station again: that is what ends the loop.
-fn walk(colours: &[u8], s: Shape, row: usize, col: usize, from: PointerState) -> Walked
-    requires { Frames colours.now s × Inside (picture_of colours.now s) row col × Valid from }
-    ensures { Walks (picture_of colours.now s) row col from result }
+fn walk(grid: CodelGrid, row: usize, col: usize, from: PointerState) -> Walked
+    requires { Inside (picture_in grid) row col × Valid from }
+    ensures { Walks (picture_in grid.entry) row col from result }
 {
     let mut at_row = row;
     let mut at_col = col;
@@ -106,7 +107,7 @@ fn walk(colours: &[u8], s: Shape, row: usize, col: usize, from: PointerState) ->
             };
         }
         watch = noted(watch, at_row, at_col, dp);
-        match crate::slide::look(colours, s, at_row, at_col, dp) {
+        match crate::slide::look(grid, at_row, at_col, dp) {
             Sight::Shut => {
                 state = state.turned();
             }
@@ -130,16 +131,10 @@ fn walk(colours: &[u8], s: Shape, row: usize, col: usize, from: PointerState) ->
 }
 
 // The slide from a white codel, in edition 2.
-pub fn page_slide(
-    colours: &[u8],
-    s: Shape,
-    row: usize,
-    col: usize,
-    from: PointerState,
-) -> Option<Landed>
-    requires { Frames colours.now s × Inside (picture_of colours.now s) row col × Valid from }
-    ensures { Ends (picture_of colours.now s) comes_back row col from result }
+pub fn page_slide(grid: CodelGrid, row: usize, col: usize, from: PointerState) -> Option<Landed>
+    requires { Inside (picture_in grid) row col × Valid from }
+    ensures { Ends (picture_in grid.entry) comes_back row col from result }
 {
-    let walked = walk(colours, s, row, col, from);
+    let walked = walk(grid, row, col, from);
     walked.end
 }

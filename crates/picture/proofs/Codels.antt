@@ -4,9 +4,9 @@ use Prim.Native.Nat.{ℕ, ◌+◌, ◌*◌, ◌/◌, ◌%◌, ◌<◌, ◌≤◌
 use native.Mathlib.Nat.{div-lt_iff_lt-mul, mod-lt, zero-mul}
 use native.Mathlib.Omega.{arith}
 use lib.Arith.{digits_div, digits_mod, digits_lt}
-use mathlib.Core.List.{List}
-use Rattle.picture.specs.declared.shape.Shape.{Shape}
-use Rattle.picture.specs.Picture.{Picture, rows_of, cols_of, codels, Inside, index_of, Sound, shape_of, picture_of, Frames}
+use Rattle.picture.specs.declared.grid.CodelGrid.{CodelGrid}
+use Rattle.picture.specs.Codels.{picture_in}
+use Rattle.picture.specs.Picture.{Picture, rows_of, cols_of, codels, Inside, index_of, Sound, shape_of, Frames}
 use Rattle.picture.proofs.Sizes.{side_pos, corner_in}
 
 -- the index of a codel is in the grid, and gives its row and column back
@@ -45,21 +45,9 @@ col_in {p} s r c i = corner_in p.width p.codel c s.some i.col_in
 pub frames : {p : Picture} → Sound p → Frames p.colours (shape_of p)
 frames s = record { sound = s; rows_are = refl; cols_are = refl }
 
-pub frames_few : {colours : List ℕ} {s : Shape} → Frames colours s → s.rows * s.cols ≤ 65536
-frames_few f = rw (f.rows_are, f.cols_are) f.sound.few
+-- the same of the code's grid: its numbers are those of its picture
+pub grid_few : (g : CodelGrid) → g.shape.rows * g.shape.cols ≤ 65536
+grid_few g = rw (g.framed.rows_are, g.framed.cols_are) g.framed.sound.few
 
-pub frames_wide : {colours : List ℕ} {s : Shape} → Frames colours s → 0 < s.cols
-frames_wide f = rw f.cols_are (cols_pos f.sound)
-
--- a shape that belongs to the colours is the picture's own
-pub frames_shape : {colours : List ℕ} {s : Shape} → Frames colours s → s ≡ shape_of (picture_of colours s)
-frames_shape {colours} {s} f = λ i. record {
-  height = s.height;
-  width = s.width;
-  codel = s.codel;
-  rows = f.rows_are i;
-  cols = f.cols_are i;
-}
-
-pub frames_count : {colours : List ℕ} {s : Shape} → Frames colours s → s.rows * s.cols ≡ codels (picture_of colours s)
-frames_count f = rw (f.rows_are, f.cols_are)
+pub grid_count : (g : CodelGrid) → g.shape.rows * g.shape.cols ≡ codels (picture_in g)
+grid_count g = rw (g.framed.rows_are, g.framed.cols_are)

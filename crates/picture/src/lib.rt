@@ -3,6 +3,7 @@
 // here: it is `program.rs`'s own.
 #![tactic(auto)]
 
+pub mod grid;
 pub mod shape;
 
 ghost use Rattle.std.specs.Prelude.{◌≡◌};

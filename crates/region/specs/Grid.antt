@@ -1,8 +1,9 @@
 -- The grid of codels of a picture (rule 2.2), and the steps between codels (rule 3.1).
 -- A codel is given by its index, row by row: the codel in row r and column c has the index r x columns + c. Assumes nothing.
-use Rattle.std.specs.Prelude.{◌≡◌, List, ℕ, zero, suc, ◌+◌, ◌*◌, ◌/◌, ◌%◌, ◌≤◌, ◌<◌}
-use Rattle.picture.specs.declared.shape.Shape.{Shape}
-use Rattle.picture.specs.Picture.{Picture, rows_of, cols_of, colour_at, codel_colour, picture_of}
+use Rattle.std.specs.Prelude.{◌≡◌, ℕ, zero, suc, ◌+◌, ◌*◌, ◌/◌, ◌%◌, ◌≤◌, ◌<◌}
+use Rattle.picture.specs.declared.grid.CodelGrid.{CodelGrid}
+use Rattle.picture.specs.Codels.{picture_in}
+use Rattle.picture.specs.Picture.{Picture, rows_of, cols_of, colour_at, codel_colour}
 
 pub record Grid : Type 0 where
   pub rows : ℕ
@@ -18,9 +19,9 @@ count g = g.rows * g.cols
 abbrev pub grid_of : Picture → Grid
 grid_of p = record { rows = rows_of p; cols = cols_of p; colour = λ i. codel_colour p i }
 
--- the same, by the numbers that the code carries beside the colours
-abbrev pub grid_at : List ℕ → Shape → Grid
-grid_at colours s = record { rows = s.rows; cols = s.cols; colour = λ i. colour_at (picture_of colours s) (i / s.cols) (i % s.cols) }
+-- the same, by the numbers that the code carries
+abbrev pub grid_at : CodelGrid → Grid
+grid_at g = record { rows = g.shape.rows; cols = g.shape.cols; colour = λ i. colour_at (picture_in g) (i / g.shape.cols) (i % g.shape.cols) }
 
 -- a step between codels: from i to j toward 0 it is one column right, toward 1 one row down, toward 2 one column left, toward
 -- 3 one row up

@@ -1,12 +1,12 @@
 // One region is explored from its first codel (`explore_region`): a flood with a queue of codels in
 // the work slice. The map is what `discovered` is in the Rust.
 ghost use Rattle.std.specs.Prelude.{◌≡◌, ◌+◌, ◌*◌, ◌≤◌, ◌<◌, get_or};
-ghost use Rattle.region.specs.Grid.{grid_at};
+ghost use Rattle.region.specs.Grid.{count, grid_at};
 ghost use Rattle.region.specs.Room.{Room};
 ghost use Rattle.region.specs.Steps.{unnumbered, vacant, Visit, Spread, Part, Numbered};
 
 use crate::codels::{codel_colour, neighbour};
-use picture::shape::Shape;
+use picture::grid::CodelGrid;
 
 // What a codel without a number has in the map.
 pub const MARK: u32 = 65536;
@@ -14,8 +14,7 @@ pub const MARK: u32 = 65536;
 // Numbers codel j and puts it at the queue's tail, where it is inside, has no number and has the
 // this colour. Returns the new tail.
 fn visit(
-    colours: &[u8],
-    s: Shape,
+    grid: CodelGrid,
     colour: u8,
     number: u32,
     j: usize,
@@ -23,18 +22,18 @@ fn visit(
     work: &mut [u32],
     tail: usize,
 ) -> usize
-    requires room { Room colours.now s map.old work.old }
-    requires tail_bound { vacant (s.rows * s.cols) map.old + tail ≤ s.rows * s.cols }
-    ensures { Visit (grid_at colours.now s) colour number j map.old work.old tail map.new work.new result }
+    requires room { Room grid map.old work.old }
+    requires tail_bound { vacant (count (grid_at grid)) map.old + tail ≤ count (grid_at grid) }
+    ensures { Visit (grid_at grid.entry) colour number j map.old work.old tail map.new work.new result }
 {
-    let outside = s.rows * s.cols;
+    let outside = grid.shape.rows * grid.shape.cols;
     if outside <= j {
         return tail;
     }
     if map[j] != MARK {
         return tail;
     }
-    if codel_colour(colours, s, j) != colour {
+    if codel_colour(grid, j) != colour {
         return tail;
     }
     map[j] = number;
@@ -44,26 +43,25 @@ fn visit(
 
 // Visits the four codels one step from i. Returns the new tail of the queue.
 fn expand(
-    colours: &[u8],
-    s: Shape,
+    grid: CodelGrid,
     number: u32,
     i: usize,
     map: &mut [u32],
     work: &mut [u32],
     tail: usize,
 ) -> usize
-    requires room { Room colours.now s map.old work.old }
-    requires tail_bound { vacant (s.rows * s.cols) map.old + tail ≤ s.rows * s.cols }
-    requires i_bound { i < s.rows * s.cols }
+    requires room { Room grid map.old work.old }
+    requires tail_bound { vacant (count (grid_at grid)) map.old + tail ≤ count (grid_at grid) }
+    requires i_bound { i < count (grid_at grid) }
     requires number_lt_unnumbered { number < unnumbered }
-    ensures { Spread (grid_at colours.now s) number i 4 map.old work.old tail map.new work.new result }
+    ensures { Spread (grid_at grid.entry) number i 4 map.old work.old tail map.new work.new result }
 {
-    let colour = codel_colour(colours, s, i);
+    let colour = codel_colour(grid, i);
     let mut end = tail;
     let mut way = 0;
     while way < 4 {
-        let j = neighbour(s, i, way);
-        end = visit(colours, s, colour, number, j, map, work, end);
+        let j = neighbour(grid, i, way);
+        end = visit(grid, colour, number, j, map, work, end);
         way += 1;
     }
     end
@@ -71,19 +69,12 @@ fn expand(
 
 // Gives the number to the seed and to every codel that is joined to it. Codels are never taken out of
 // the queue: the head moves on, so the room that it needs is that of the codels.
-pub fn explore_region(
-    colours: &[u8],
-    s: Shape,
-    number: u32,
-    seed: usize,
-    map: &mut [u32],
-    work: &mut [u32],
-)
-    requires room { Room colours.now s map.old work.old }
-    requires part { Part (grid_at colours.now s) seed number map.old }
-    requires seed_bound { seed < s.rows * s.cols }
+pub fn explore_region(grid: CodelGrid, number: u32, seed: usize, map: &mut [u32], work: &mut [u32])
+    requires room { Room grid map.old work.old }
+    requires part { Part (grid_at grid) seed number map.old }
+    requires seed_bound { seed < count (grid_at grid) }
     requires seed_value { get_or map.old seed 0 ≡ unnumbered }
-    ensures { Numbered (grid_at colours.now s) (seed + 1) (number + 1) map.old work.old map.new work.new }
+    ensures { Numbered (grid_at grid.entry) (seed + 1) (number + 1) map.old work.old map.new work.new }
 {
     map[seed] = number;
     work[0] = seed as u32;
@@ -91,7 +82,7 @@ pub fn explore_region(
     let mut tail = 1;
     while head < tail {
         let i = work[head] as usize;
-        tail = expand(colours, s, number, i, map, work, tail);
+        tail = expand(grid, number, i, map, work, tail);
         head += 1;
     }
 }

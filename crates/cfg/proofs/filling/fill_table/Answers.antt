@@ -2,8 +2,8 @@
 -- Assumes nothing.
 use mathlib.Core.Path.{◌∙◌}
 use native.Mathlib.Omega.{arith}
+use Rattle.picture.specs.Codels.{picture_in}
 use Rattle.cfg.proofs.Stages.{mapped, ready, builds, cleared_work}
-use Rattle.picture.specs.Picture.{picture_of}
 use Rattle.region.proofs.MapLaws.{map_few}
 use Rattle.cfg.proofs.filling.fill_table.Goals as goal
 
@@ -11,14 +11,14 @@ pub leave_by-requires : goal.leave_by-requires
 leave_by-requires c =
     let the-begin = c.begin-n in
     let the-pre = c.requires in
-    rw (the-pre.frames.rows_are, the-pre.frames.cols_are) (mapped the-begin.ensures _ the-pre.sized.exits_long)
+    rw (c.args.grid.framed.rows_are, c.args.grid.framed.cols_are) (mapped the-begin.ensures _ the-pre.exits_long)
 
 pub search-requires : goal.search-requires
 search-requires c =
     let the-begin = c.begin-n in
     let the-pre = c.requires in
     let the-leave-by = c.leave_by in
-    record { ready = ready the-begin.ensures (rw (the-pre.frames.rows_are, the-pre.frames.cols_are, the-pre.sized.exits_long) at the-leave-by.ensures) (the-leave-by.auto.best ∙ the-pre.sized.exits_long) (the-begin.auto.work ∙ the-pre.sized.work_long); frames = the-pre.frames }
+    ready the-begin.ensures (rw (c.args.grid.framed.rows_are, c.args.grid.framed.cols_are, the-pre.exits_long) at the-leave-by.ensures) (the-leave-by.auto.best ∙ the-pre.exits_long) (the-begin.auto.work ∙ the-pre.work_long)
 
 pub keep_nodes-requires : goal.keep_nodes-requires
 keep_nodes-requires c =
@@ -27,7 +27,7 @@ keep_nodes-requires c =
     let the-leave-by = c.leave_by in
     let the-pre = c.requires in
     let few = map_few _ _ _ the-begin.ensures.regions in
-    record { n_in_bounds = omega (arith, the-search.auto.rows, the-begin.ensures.rows_long); n_in_bounds_2 = omega (arith, the-search.auto.exits, the-leave-by.auto.best, the-pre.sized.exits_long); n_bound = omega (arith, the-pre.sized.sound.few) }
+    record { n_in_bounds = omega (arith, the-search.auto.rows, the-begin.ensures.rows_long); n_in_bounds_2 = omega (arith, the-search.auto.exits, the-leave-by.auto.best, the-pre.exits_long); n_bound = omega (arith, the-pre.sound.few) }
 
 pub returns : goal.returns
 returns c =
@@ -38,7 +38,7 @@ returns c =
     let the-keep-nodes = c.keep_nodes in
     let the-args = c.args in
     let the-fill-u32 = c.fill_u32 in
-    builds the-begin.ensures (rw (the-pre.frames.rows_are, the-pre.frames.cols_are, the-pre.sized.exits_long) at the-leave-by.ensures) the-search.ensures the-keep-nodes.ensures
+    builds the-begin.ensures (rw (c.args.grid.framed.rows_are, c.args.grid.framed.cols_are, the-pre.exits_long) at the-leave-by.ensures) the-search.ensures the-keep-nodes.ensures
     (the-keep-nodes.auto.rows ∙ the-search.auto.rows ∙ the-begin.ensures.rows_long)
-    (the-keep-nodes.auto.exits ∙ the-search.auto.exits ∙ the-leave-by.auto.best ∙ the-pre.sized.exits_long)
-    (cleared_work (picture_of the-args.colours.now the-args.s) the-search.new.work (the-search.auto.work ∙ the-begin.auto.work ∙ the-pre.sized.work_long) the-fill-u32.ensures)
+    (the-keep-nodes.auto.exits ∙ the-search.auto.exits ∙ the-leave-by.auto.best ∙ the-pre.exits_long)
+    (cleared_work (picture_in c.args.grid) the-search.new.work (the-search.auto.work ∙ the-begin.auto.work ∙ the-pre.work_long) the-fill-u32.ensures)

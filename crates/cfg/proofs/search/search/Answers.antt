@@ -9,13 +9,13 @@ pair_table-pairs-requires c = tt
 
 pub visit-tail-requires : goal.visit-tail-requires
 visit-tail-requires c =
-    record { room = (queue_first {e = c.args.edition} c.requires.ready).room; q_in_bounds = first_low c.requires.ready }
+    record { room = (queue_first {e = c.args.edition} c.requires).room; q_in_bounds = first_low c.requires }
 
 pub loop-head-init : goal.loop-head-init
 loop-head-init c =
     let the-pre = c.requires in
     let the-visit = c.visit-tail in
-    search_start the-pre.ready the-visit.ensures
+    search_start the-pre the-visit.ensures
 
 pub bounds-work-head : goal.bounds-work-head
 bounds-work-head c =
@@ -33,7 +33,7 @@ try_states-tail-requires c =
     let the-pair-table = c.pair_table-pairs in
     let the-loop = c.loop-head in
     let the-loop-test = c.loop-head-test in
-    record { taken = rw the-wide.ensures (search_taken the-pre.ready the-visit.ensures the-loop.invariant the-loop-test.true); queue = the-loop.invariant.queue; frames = the-pre.frames; decodes_pairs = the-pair-table.ensures }
+    record { taken = rw the-wide.ensures (search_taken the-pre the-visit.ensures the-loop.invariant the-loop-test.true); queue = the-loop.invariant.queue; decodes_pairs = the-pair-table.ensures }
 
 pub loop-head-smaller : goal.loop-head-smaller
 loop-head-smaller c =
@@ -42,7 +42,7 @@ loop-head-smaller c =
     let the-pre = c.requires in
     let the-visit = c.visit-tail in
     let l = the-loop.invariant in
-    omega (arith, the-loop-test.true, l.queue.room.free, work_long the-pre.ready the-visit.ensures l)
+    omega (arith, the-loop-test.true, l.queue.room.free, work_long the-pre the-visit.ensures l)
 
 pub loop-head-preserved : goal.loop-head-preserved
 loop-head-preserved c =
@@ -52,7 +52,7 @@ loop-head-preserved c =
     let the-loop-test = c.loop-head-test in
     let the-wide = c.wide-r in
     let the-try-states = c.try_states-tail in
-    search_turn the-pre.ready the-visit.ensures the-loop.invariant the-loop-test.true (rw the-wide.ensures at the-try-states.ensures)
+    search_turn the-pre the-visit.ensures the-loop.invariant the-loop-test.true (rw the-wide.ensures at the-try-states.ensures)
 
 pub shape_of-rows : goal.shape_of-rows
 shape_of-rows c =
@@ -71,4 +71,4 @@ pub returns : goal.returns
 returns c =
     let the-pre = c.requires in
     let the-visit = c.visit-tail in
-    search_end the-pre.ready the-visit.ensures c.loop-head.invariant c.loop-head-test.false
+    search_end the-pre the-visit.ensures c.loop-head.invariant c.loop-head-test.false

@@ -10,7 +10,7 @@ colour_at-from-requires c =
     let the-exit-cell = c.exit_cell-cell in
     let the-pre = c.requires in
     let the-args = c.args in
-    (the-pre.frames, leave_inside the-args.state the-pre.grounds the-pre.leaves_by (rw the-exit-cell.ensures at c.wide-i.ensures) the-pre.frames.cols_are)
+    leave_inside the-args.state the-pre.grounds the-pre.leaves_by (rw the-exit-cell.ensures at c.wide-i.ensures) c.args.grid.framed.cols_are
 
 pub attempt_from-way-requires : goal.attempt_from-way-requires
 attempt_from-way-requires c =
@@ -18,7 +18,7 @@ attempt_from-way-requires c =
     let the-pre = c.requires in
     let the-args = c.args in
     let the-wide = c.wide-i in
-    (the-pre.frames, leave_inside the-args.state the-pre.grounds the-pre.leaves_by (rw the-exit-cell.ensures at the-wide.ensures) the-pre.frames.cols_are, rw c.of_number-p.ensures (valid_number the-args.state the-pre.state_bound))
+    (leave_inside the-args.state the-pre.grounds the-pre.leaves_by (rw the-exit-cell.ensures at the-wide.ensures) c.args.grid.framed.cols_are, rw c.of_number-p.ensures (valid_number the-args.state the-pre.state_bound))
 
 pub way_number-requires : goal.way_number-requires
 way_number-requires c =
@@ -26,7 +26,7 @@ way_number-requires c =
     let the-pre = c.requires in
     let the-args = c.args in
     let the-wide = c.wide-i in
-    record { grounds = the-pre.grounds; in_grid = placed (leave_inside the-args.state the-pre.grounds the-pre.leaves_by (rw the-exit-cell.ensures at the-wide.ensures) the-pre.frames.cols_are) (rw c.of_number-p.ensures (valid_number the-args.state the-pre.state_bound)) c.attempt_from-way.ensures; state_bound = the-pre.state_bound; frames = the-pre.frames; decodes_pairs = the-pre.decodes_pairs }
+    record { grounds = the-pre.grounds; in_grid = placed (leave_inside the-args.state the-pre.grounds the-pre.leaves_by (rw the-exit-cell.ensures at the-wide.ensures) c.args.grid.framed.cols_are) (rw c.of_number-p.ensures (valid_number the-args.state the-pre.state_bound)) c.attempt_from-way.ensures; state_bound = the-pre.state_bound; decodes_pairs = the-pre.decodes_pairs }
 
 pub bounds-exits-cell-2 : goal.bounds-exits-cell-2
 bounds-exits-cell-2 c =
@@ -41,7 +41,7 @@ queue_way-requires c =
     let the-wide = c.wide-i in
     let the-of-number = c.of_number-p in
     let the-attempt-from = c.attempt_from-way in
-    record { grounds = the-pre.grounds; in_grid = placed (leave_inside the-args.state the-pre.grounds the-pre.leaves_by (rw the-exit-cell.ensures at the-wide.ensures) the-pre.frames.cols_are) (rw the-of-number.ensures (valid_number the-args.state the-pre.state_bound)) the-attempt-from.ensures; room = the-pre.queue.room; work_len = the-pre.work_len; frames = the-pre.frames }
+    record { grounds = the-pre.grounds; in_grid = placed (leave_inside the-args.state the-pre.grounds the-pre.leaves_by (rw the-exit-cell.ensures at the-wide.ensures) c.args.grid.framed.cols_are) (rw the-of-number.ensures (valid_number the-args.state the-pre.state_bound)) the-attempt-from.ensures; room = the-pre.queue.room; work_len = the-pre.work_len }
 
 pub returns : goal.returns
 returns c =
@@ -54,4 +54,4 @@ returns c =
     let the-colour-at = c.colour_at-from in
     let the-way-number = c.way_number in
     let the-queue-way = c.queue_way in
-    rw the-exit-cell.ensures (tries_read the-args.state the-pre.grounds the-pre.leaves_by (rw the-exit-cell.ensures at the-wide.ensures) the-pre.frames.cols_are the-pre.found the-pre.queue the-pre.work_len the-pre.state_bound the-of-number.ensures the-attempt-from.ensures (placed (leave_inside the-args.state the-pre.grounds the-pre.leaves_by (rw the-exit-cell.ensures at the-wide.ensures) the-pre.frames.cols_are) (rw the-of-number.ensures (valid_number the-args.state the-pre.state_bound)) the-attempt-from.ensures) the-colour-at.ensures the-way-number.ensures the-queue-way.ensures)
+    rw the-exit-cell.ensures (tries_read the-args.state the-pre.grounds the-pre.leaves_by (rw the-exit-cell.ensures at the-wide.ensures) c.args.grid.framed.cols_are the-pre.found the-pre.queue the-pre.work_len the-pre.state_bound the-of-number.ensures the-attempt-from.ensures (placed (leave_inside the-args.state the-pre.grounds the-pre.leaves_by (rw the-exit-cell.ensures at the-wide.ensures) c.args.grid.framed.cols_are) (rw the-of-number.ensures (valid_number the-args.state the-pre.state_bound)) the-attempt-from.ensures) the-colour-at.ensures the-way-number.ensures the-queue-way.ensures)

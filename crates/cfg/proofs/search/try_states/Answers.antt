@@ -1,6 +1,6 @@
-use mathlib.Core.Path.{◌≡◌}
+use mathlib.Core.Path.{◌≡◌, ◌∙◌}
 use native.Mathlib.Omega.{arith}
-use Rattle.cfg.proofs.Trying.{several_none, several_more, next_needs}
+use Rattle.cfg.proofs.Trying.{several_none, several_more}
 use Rattle.cfg.proofs.search.try_states.Goals as goal
 
 pub loop-state-init : goal.loop-state-init
@@ -11,21 +11,19 @@ loop-state-init c =
 
 pub try_state-end-requires : goal.try_state-end-requires
 try_state-end-requires c =
-    let the-pre = c.requires in
-    let the-loop = c.loop-state in
-    let the-loop-test = c.loop-state-test in
-    let needs = next_needs the-pre.taken the-loop.invariant.1 the-loop-test.true the-pre.frames in
+    let T = c.requires.taken in
+    let W = c.loop-state.invariant.1 in
+    let h = c.loop-state-test.true in
     record {
-      grounds = needs.0;
-      found = needs.1.0;
-      queue = needs.1.1.0;
-      leaves_by = needs.1.1.1.0;
-      work_len = needs.1.1.1.1.0;
-      r_in_bounds = needs.1.1.1.1.1.0;
-      r_bound = needs.1.1.1.1.1.1.0;
-      state_bound = needs.1.1.1.1.1.1.1.0;
-      frames = needs.1.1.1.1.1.1.1.1;
-      decodes_pairs = the-pre.decodes_pairs;
+      grounds = T.grounds;
+      found = T.found;
+      queue = W.onward.queue;
+      leaves_by = rw (W.same c.args.r c.loop-state.state h (λ e. omega arith)) (T.leaving c.loop-state.state h);
+      work_len = W.onward.work_length ∙ T.work_long;
+      r_in_bounds = omega (arith, W.exits_length, T.exits_long);
+      r_bound = T.few;
+      state_bound = h;
+      decodes_pairs = c.requires.decodes_pairs;
     }
 
 pub loop-state-smaller : goal.loop-state-smaller

@@ -1,12 +1,12 @@
 -- `cfg::search::try_states` meets its contract: the loop's invariant: the states below `state` are settled (`Several`).
 -- Assumes nothing.
 use Prim.Native.Nat.{◌-◌, ◌≤◌}
+use Rattle.picture.specs.Codels.{picture_in}
 use Rattle.cfg.specs.Search.{Several}
-use Rattle.picture.specs.Picture.{picture_of}
 use Rattle.cfg.proofs.search.try_states.Given as goal
 
 abbrev pub invariant-loop-state : goal.invariant-loop-state
-invariant-loop-state l = (l.state ≤ 8) × Several l.edition (picture_of l.colours l.s) l.map l.r l.state l.initial.rows l.initial.exits l.initial.work l.tail l.rows l.exits l.work l.end
+invariant-loop-state l = (l.state ≤ 8) × Several l.edition (picture_in l.grid) l.map l.r l.state l.initial.rows l.initial.exits l.initial.work l.tail l.rows l.exits l.work l.end
 
 abbrev pub decreases-loop-state : goal.decreases-loop-state
 decreases-loop-state l = 8 - l.state

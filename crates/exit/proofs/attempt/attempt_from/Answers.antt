@@ -1,6 +1,7 @@
 -- `exit::attempt::attempt_from` meets its contract: a constructor of `Attempt` for each arm. Assumes nothing.
 use mathlib.Core.Path.{◌≡◌, sym, subst, ◌∙◌}
-use Rattle.picture.specs.Picture.{Picture, picture_of}
+use Rattle.picture.specs.Codels.{picture_in}
+use Rattle.picture.specs.Picture.{Picture}
 use Rattle.exit.specs.declared.slide.Sight.TheVariants.{White}
 use Rattle.exit.specs.Trail.{lost_by}
 use Rattle.exit.specs.Slide.{look_of, Ends}
@@ -10,9 +11,9 @@ use Rattle.exit.proofs.attempt.attempt_from.Goals as goal
 
 pub slide-requires : goal.slide-requires
 slide-requires c =
-    let pic : Picture = picture_of c.args.colours.now c.args.s in
+    let pic : Picture = picture_in c.args.grid in
     let white : look_of pic c.args.row c.args.col c.args.from.dp ≡ White c.in-White.r c.in-White.c = sym c.look.ensures ∙ c.in-White.is in
-    (c.requires.0, white_inside _ _ _ _ c.requires.1 white, c.requires.2)
+    (white_inside _ _ _ _ c.requires.0 white, c.requires.1)
 
 pub returns-in-Shut : goal.returns-in-Shut
 returns-in-Shut c = shut (sym c.look.ensures ∙ c.in-Shut.is)
@@ -22,12 +23,12 @@ returns-in-Coloured c = step (sym c.look.ensures ∙ c.in-Coloured.is)
 
 pub returns-in-Some : goal.returns-in-Some
 returns-in-Some c =
-    let pic : Picture = picture_of c.args.colours.now c.args.s in
+    let pic : Picture = picture_in c.args.grid in
     let white : look_of pic c.args.row c.args.col c.args.from.dp ≡ White c.in-White.r c.in-White.c = sym c.look.ensures ∙ c.in-White.is in
     glide white (subst (Ends pic (lost_by c.args.edition) _ _ c.args.from) c.in-Some.is c.slide.ensures)
 
 pub returns-in-None : goal.returns-in-None
 returns-in-None c =
-    let pic : Picture = picture_of c.args.colours.now c.args.s in
+    let pic : Picture = picture_in c.args.grid in
     let white : look_of pic c.args.row c.args.col c.args.from.dp ≡ White c.in-White.r c.in-White.c = sym c.look.ensures ∙ c.in-White.is in
     lost white (subst (Ends pic (lost_by c.args.edition) _ _ c.args.from) c.in-None.is c.slide.ensures)

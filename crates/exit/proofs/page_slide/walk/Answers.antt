@@ -6,16 +6,16 @@ use Rattle.exit.proofs.page_slide.walk.Goals as goal
 
 pub slide-init : goal.slide-init
 slide-init c =
-    watch_begins c.requires.1 c.requires.2 c.begun-watch.ensures
+    watch_begins c.requires.0 c.requires.1 c.begun-watch.ensures
 
 pub noted-watch-requires : goal.noted-watch-requires
 noted-watch-requires c =
     let S = c.slide.invariant in
-    let few = c.requires.0.sound.few in
+    let few = c.args.grid.framed.sound.few in
     (omega (arith, looks_most S, few), omega (arith, next_most S, few))
 
 pub look-requires : goal.look-requires
-look-requires c = (c.requires.0, c.slide.invariant.place)
+look-requires c = c.slide.invariant.place
 
 pub turned-state-requires : goal.turned-state-requires
 turned-state-requires c = c.slide.invariant.valid

@@ -3,10 +3,10 @@ use Rattle.exit.proofs.Sliding.{move_less, begins, loses, turns, turns_less, mov
 use Rattle.exit.proofs.slide.rust_slide.Goals as goal
 
 pub slide-init : goal.slide-init
-slide-init c = begins c.requires.1 c.requires.2
+slide-init c = begins c.requires.0 c.requires.1
 
 pub look-requires : goal.look-requires
-look-requires c = (c.requires.0, c.slide.invariant.place)
+look-requires c = c.slide.invariant.place
 
 pub turned-state-requires : goal.turned-state-requires
 turned-state-requires c = c.slide.invariant.valid

@@ -3,4 +3,4 @@ use Rattle.region.proofs.GridLaws.{framed_inside}
 use Rattle.region.proofs.codels.codel_colour.Goals as goal
 
 pub colour_at-requires : goal.colour_at-requires
-colour_at-requires c = (c.requires.frames, framed_inside c.requires.frames c.args.i c.requires.i_bound)
+colour_at-requires c = framed_inside c.args.grid c.args.i c.requires

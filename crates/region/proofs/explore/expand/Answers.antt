@@ -1,6 +1,7 @@
 use mathlib.Core.Path.{◌≡◌}
 use native.Mathlib.Omega.{arith}
-use Rattle.region.proofs.GridLaws.{room_few, room_kept}
+use Rattle.picture.proofs.Codels.{grid_few}
+use Rattle.region.proofs.GridLaws.{room_kept}
 use Rattle.region.proofs.Spreading.{spread_none, spread_more}
 use Rattle.region.proofs.explore.expand.Goals as goal
 
@@ -12,7 +13,7 @@ loop-way-init c =
 pub neighbour-j-requires : goal.neighbour-j-requires
 neighbour-j-requires c =
     let the-pre = c.requires in
-    record { cols_bound = room_few the-pre.room; i_bound = the-pre.i_bound; way_bound = c.loop-way-test.true }
+    record { i_bound = the-pre.i_bound; way_bound = c.loop-way-test.true }
 
 pub visit-end-requires : goal.visit-end-requires
 visit-end-requires c =

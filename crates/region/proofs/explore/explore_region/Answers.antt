@@ -1,6 +1,7 @@
 use native.Mathlib.Omega.{arith}
 use Rattle.region.specs.Grid.{grid_at}
-use Rattle.region.proofs.GridLaws.{room_few, room_kept}
+use Rattle.picture.proofs.Codels.{grid_few}
+use Rattle.region.proofs.GridLaws.{room_kept}
 use Rattle.region.proofs.Filling.{Seeded, flood_start, flood_turn, flood_end, flood_map_length, flood_work_length}
 use Rattle.region.proofs.explore.explore_region.Goals as goal
 
@@ -16,9 +17,9 @@ bounds-work-0 c =
 
 pub loop-head-init : goal.loop-head-init
 loop-head-init c =
-    let seeded : Seeded (grid_at c.args.colours.now c.args.s) c.args.seed c.args.number c.args.map.now c.args.work.now = record {
+    let seeded : Seeded (grid_at c.args.grid) c.args.seed c.args.number c.args.map.now c.args.work.now = record {
       part = c.requires.part;
-      small = omega (arith, c.requires.part.few, c.requires.seed_bound, room_few c.requires.room);
+      small = omega (arith, c.requires.part.few, c.requires.seed_bound, grid_few c.args.grid);
       inside = c.requires.seed_bound;
       free = c.requires.seed_value;
       long = c.requires.room.map_room;
@@ -28,9 +29,9 @@ loop-head-init c =
 
 pub bounds-work-head : goal.bounds-work-head
 bounds-work-head c =
-    let seeded : Seeded (grid_at c.args.colours.now c.args.s) c.args.seed c.args.number c.args.map.now c.args.work.now = record {
+    let seeded : Seeded (grid_at c.args.grid) c.args.seed c.args.number c.args.map.now c.args.work.now = record {
       part = c.requires.part;
-      small = omega (arith, c.requires.part.few, c.requires.seed_bound, room_few c.requires.room);
+      small = omega (arith, c.requires.part.few, c.requires.seed_bound, grid_few c.args.grid);
       inside = c.requires.seed_bound;
       free = c.requires.seed_value;
       long = c.requires.room.map_room;
@@ -42,9 +43,9 @@ bounds-work-head c =
 
 pub expand-tail-requires : goal.expand-tail-requires
 expand-tail-requires c =
-    let seeded : Seeded (grid_at c.args.colours.now c.args.s) c.args.seed c.args.number c.args.map.now c.args.work.now = record {
+    let seeded : Seeded (grid_at c.args.grid) c.args.seed c.args.number c.args.map.now c.args.work.now = record {
       part = c.requires.part;
-      small = omega (arith, c.requires.part.few, c.requires.seed_bound, room_few c.requires.room);
+      small = omega (arith, c.requires.part.few, c.requires.seed_bound, grid_few c.args.grid);
       inside = c.requires.seed_bound;
       free = c.requires.seed_value;
       long = c.requires.room.map_room;
@@ -62,9 +63,9 @@ loop-head-smaller c =
 
 pub loop-head-preserved : goal.loop-head-preserved
 loop-head-preserved c =
-    let seeded : Seeded (grid_at c.args.colours.now c.args.s) c.args.seed c.args.number c.args.map.now c.args.work.now = record {
+    let seeded : Seeded (grid_at c.args.grid) c.args.seed c.args.number c.args.map.now c.args.work.now = record {
       part = c.requires.part;
-      small = omega (arith, c.requires.part.few, c.requires.seed_bound, room_few c.requires.room);
+      small = omega (arith, c.requires.part.few, c.requires.seed_bound, grid_few c.args.grid);
       inside = c.requires.seed_bound;
       free = c.requires.seed_value;
       long = c.requires.room.map_room;
@@ -77,9 +78,9 @@ loop-head-preserved c =
 
 pub shape_of-map : goal.shape_of-map
 shape_of-map c =
-    let seeded : Seeded (grid_at c.args.colours.now c.args.s) c.args.seed c.args.number c.args.map.now c.args.work.now = record {
+    let seeded : Seeded (grid_at c.args.grid) c.args.seed c.args.number c.args.map.now c.args.work.now = record {
       part = c.requires.part;
-      small = omega (arith, c.requires.part.few, c.requires.seed_bound, room_few c.requires.room);
+      small = omega (arith, c.requires.part.few, c.requires.seed_bound, grid_few c.args.grid);
       inside = c.requires.seed_bound;
       free = c.requires.seed_value;
       long = c.requires.room.map_room;
@@ -89,9 +90,9 @@ shape_of-map c =
 
 pub shape_of-work : goal.shape_of-work
 shape_of-work c =
-    let seeded : Seeded (grid_at c.args.colours.now c.args.s) c.args.seed c.args.number c.args.map.now c.args.work.now = record {
+    let seeded : Seeded (grid_at c.args.grid) c.args.seed c.args.number c.args.map.now c.args.work.now = record {
       part = c.requires.part;
-      small = omega (arith, c.requires.part.few, c.requires.seed_bound, room_few c.requires.room);
+      small = omega (arith, c.requires.part.few, c.requires.seed_bound, grid_few c.args.grid);
       inside = c.requires.seed_bound;
       free = c.requires.seed_value;
       long = c.requires.room.map_room;
@@ -101,9 +102,9 @@ shape_of-work c =
 
 pub returns : goal.returns
 returns c =
-    let seeded : Seeded (grid_at c.args.colours.now c.args.s) c.args.seed c.args.number c.args.map.now c.args.work.now = record {
+    let seeded : Seeded (grid_at c.args.grid) c.args.seed c.args.number c.args.map.now c.args.work.now = record {
       part = c.requires.part;
-      small = omega (arith, c.requires.part.few, c.requires.seed_bound, room_few c.requires.room);
+      small = omega (arith, c.requires.part.few, c.requires.seed_bound, grid_few c.args.grid);
       inside = c.requires.seed_bound;
       free = c.requires.seed_value;
       long = c.requires.room.map_room;

@@ -7,7 +7,7 @@ use Rattle.region.proofs.explore.explore_region.Given as goal
 
 abbrev pub invariant-loop-head : goal.invariant-loop-head
 invariant-loop-head l =
-    Flooding (grid_at l.colours l.s) l.seed l.number l.initial.map l.initial.work l.head l.map l.work l.tail
+    Flooding (grid_at l.grid) l.seed l.number l.initial.map l.initial.work l.head l.map l.work l.tail
 
 abbrev pub decreases-loop-head : goal.decreases-loop-head
-decreases-loop-head l = l.s.rows * l.s.cols - l.head
+decreases-loop-head l = l.grid.shape.rows * l.grid.shape.cols - l.head

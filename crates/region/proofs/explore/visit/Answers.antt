@@ -20,7 +20,7 @@ pub bounds-work-tail : goal.bounds-work-tail
 bounds-work-tail c =
     let the-args = c.args in
     let the-if2 = c.if-map-j-ne-MARK in
-    omega (arith, tally_some unnumbered (the-args.s.rows * the-args.s.cols) the-args.map.now the-args.j (search rules) (search rules) the-if2.false)
+    omega (arith, tally_some unnumbered (the-args.grid.shape.rows * the-args.grid.shape.cols) the-args.map.now the-args.j (search rules) (search rules) the-if2.false)
 
 pub returns : goal.returns
 returns c = pushed (search rules) c.if-map-j-ne-MARK.false (sym c.codel_colour.ensures ∙ c.if-codel_colour-colour.false)

@@ -37,5 +37,5 @@ shape_of-work c = c.loop-i.invariant.3
 pub returns : goal.returns
 returns c =
     let the-args = c.args in
-    let all : c.loop-i.i ≡ the-args.s.rows * the-args.s.cols = omega (arith, c.loop-i.invariant.0, c.loop-i-test.false) in
+    let all : c.loop-i.i ≡ the-args.grid.shape.rows * the-args.grid.shape.cols = omega (arith, c.loop-i.invariant.0, c.loop-i-test.false) in
     rw all at c.loop-i.invariant.1

@@ -1,6 +1,6 @@
 use mathlib.Core.Path.{◌∙◌}
 use native.Mathlib.Omega.{arith}
-use Rattle.picture.proofs.Codels.{frames_few}
+use Rattle.picture.proofs.Codels.{grid_few}
 use Rattle.region.proofs.Tabling.{counting_none, note_needs, counting_more, counting_whole}
 use Rattle.region.proofs.Cells.{filled_at, filled_rest}
 use Rattle.region.proofs.rows.region_rows.Goals as goal
@@ -8,7 +8,7 @@ use Rattle.region.proofs.rows.region_rows.Goals as goal
 pub rows_room-room-requires : goal.rows_room-room-requires
 rows_room-room-requires c =
     let the-pre = c.requires in
-    omega (arith, frames_few the-pre.frames)
+    omega (arith, grid_few c.args.grid)
 
 pub fill_u32-requires : goal.fill_u32-requires
 fill_u32-requires c =
@@ -29,7 +29,6 @@ note-requires c =
     let the-loop = c.loop-i in
     let needs = note_needs the-pre.map (omega (arith, the-fill-u32.auto.d, the-pre.cols_in_bounds)) the-loop.invariant c.loop-i-test.true in
     record {
-      frames = the-pre.frames;
       i_bound = c.loop-i-test.true;
       i_in_bounds = needs.0;
       i_bound_2 = needs.1.0;
