@@ -227,8 +227,3 @@ module _ {p : Picture} {map : List ℕ} {n : ℕ} {rows : List ℕ} (B : Begun p
       exits_rest = λ r s h k. exit_zero r h s k;
       work_zero = w;
     }
-
--- a work slice of exactly n cells, cleared
-pub cleared_work : (p : Picture) (w : List ℕ) {x : List ℕ} → length w ≡ codels p → x ≡ filled 0 (length w) 0 w → x ≡ replicate (codels p) 0
-cleared_work p w l e =
-    e ∙ filled_zero w (length w) 0 ∙ rw (drop-length w, append-nil, l)

@@ -6,7 +6,6 @@ ghost use Rattle.cfg.specs.Search.{Begun, Sized};
 use crate::nodes::keep_nodes;
 use crate::search::search;
 use base::edition::Edition;
-use base::fill::fill_u32;
 use exit::leave::leave_by;
 use picture::grid::CodelGrid;
 
@@ -42,6 +41,6 @@ pub fn fill_table(
     leave_by(map, exits, grid.shape.rows, grid.shape.cols);
     search(grid, edition, map, rows, exits, work);
     keep_nodes(n, rows, exits);
-    fill_u32(work, 0, work.len(), 0);
+    work.fill(0);
     n
 }

@@ -18,7 +18,7 @@ use crate::lookup::{LIKELY, colour_of};
 use crate::palette::PALETTE;
 use crate::setting::{no_setting, refuses, substitute};
 use crate::stretch::alike;
-use base::fill::fill_u8;
+use base::fill::fill;
 use base::limits::wrong_side;
 
 // What a call answers: done, or a refusal, with the place of an unknown pixel.
@@ -176,7 +176,7 @@ fn paint(pixels: &[u8], n: usize, setting: u8, colours: &mut [u8])
             i += 1;
         } else {
             let colour = colours[i - 1];
-            fill_u8(colours, i, end, colour);
+            fill(colours, i, end, colour);
             i = end;
         }
     }

@@ -4,7 +4,7 @@ ghost use Rattle.base.specs.Lent.{Put};
 ghost use Rattle.colour.specs.Label.{lightness_name, hue_name, name, place, is_entry, label_of, refused, Outcome};
 
 use crate::palette::{BLACK, WHITE};
-use base::fill::fill_u8;
+use base::fill::fill;
 use base::put::{put_number, put_word};
 
 // What a call answers: the label's length, or refusal 12.
@@ -112,6 +112,6 @@ pub fn label(colour: u8, row: usize, column: usize, out: &mut [u8]) -> Labelled
         return Labelled::Label;
     }
     let n = put_label(out, colour, row, column);
-    fill_u8(out, n, 22, 0);
+    fill(out, n, 22, 0);
     Labelled::Done { length: n }
 }

@@ -1,15 +1,13 @@
 -- What one codel more, and one state more, does to the table of the codels to leave by. Assumes nothing.
 use mathlib.Core.Path.{◌≡◌, refl, sym, ap, subst, ◌∙◌}
 use mathlib.Core.Bool.{Bool, true, false, cond}
-use mathlib.Core.List.{List, append-nil}
+use mathlib.Core.List.{List}
 use Prim.Native.Nat.{ℕ, ◌+◌, ◌<◌}
 use native.Mathlib.Omega.{arith}
 use borrow.Author.Tests.{eqb-true, eqb-false, eq-eqb, ne_eqb}
 use lib.Dec.{eqb}
-use lib.ListN.{length, get_or, set, length-set, replicate, length-replicate, get_or-replicate}
-use lib.Seq.{get_or-set_same, get_or-set_other, drop-length}
-use Rattle.base.specs.Lent.{filled}
-use Rattle.base.proofs.Over.{filled_zero}
+use lib.ListN.{length, get_or, set, length-set}
+use lib.Seq.{get_or-set_same, get_or-set_other}
 use Rattle.base.proofs.Tests.{by_size}
 use Rattle.flow.specs.Pointer.{Valid, state_number, of_number}
 use Rattle.flow.proofs.Order.{number_small}
@@ -209,16 +207,3 @@ all_more map before best after rows cols n h A K =
 
     now : (j : ℕ) → j < length map → Left n j
     now j m = subst (λ (c : ℕ). LeavesBy map rows cols (of_number n) (get_or map j 0) (exit_at after (get_or map j 0) c)) (number_is n) (K.best j m)
-
--- ---- the cells are cleared first
-
-pub all_zero : (best : List ℕ) → filled 0 (length best) 0 best ≡ replicate (length best) 0
-all_zero best = filled_zero best (length best) 0 ∙ rw drop-length (append-nil (replicate (length best) 0))
-
--- cells of 0 hold the first codel
-pub cells_zero : (map : List ℕ) (n rows cols : ℕ) → Mapped map n rows cols → Cells map (replicate n 0) rows cols
-cells_zero map n rows cols m =
-    record {
-      mapped = subst (λ (x : ℕ). Mapped map x rows cols) (sym (length-replicate n 0)) m;
-      codels = λ k l. subst (λ (x : ℕ). x < length map) (sym (get_or-replicate n k 0 0 (subst (λ (x : ℕ). k < x) (length-replicate n 0) l))) m.some;
-    }

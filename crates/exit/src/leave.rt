@@ -98,7 +98,6 @@ pub fn leave_by(map: &[u32], best: &mut [u32], rows: usize, cols: usize)
     requires { Mapped map.now (length best.old) rows cols }
     ensures { AllKept map.now (replicate (length best.old) 0) best.new rows cols 8 }
 {
-    let n = best.len();
-    base::fill::fill_u32(best, 0, n, 0);
+    best.fill(0);
     leave_states(map, best, rows, cols);
 }

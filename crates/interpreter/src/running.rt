@@ -13,7 +13,6 @@ use crate::stepping::{Moved, step};
 use crate::validity::{WRONG_TABLE, valid};
 use crate::{Ended, Ran, State};
 use base::edition::{UNKNOWN_EDITION, edition_of, unknown_edition};
-use base::fill::{fill_i64, fill_u8};
 use flow::PointerState;
 use machine::{Core, Reading, Skips, Stop, Terms};
 
@@ -118,12 +117,9 @@ pub fn resume(
 pub fn begin(stack: &mut [i64], kinds: &mut [u8], values: &mut [i64]) -> State
     ensures { Begun (slices stack.old kinds.old values.old) (slices stack.new kinds.new values.new) result }
 {
-    let cells = stack.len();
-    fill_i64(stack, 0, cells, 0);
-    let kind_cells = kinds.len();
-    fill_u8(kinds, 0, kind_cells, 0);
-    let value_cells = values.len();
-    fill_i64(values, 0, value_cells, 0);
+    stack.fill(0);
+    kinds.fill(0);
+    values.fill(0);
     State {
         region: 0,
         steps: 0,

@@ -21,7 +21,7 @@ ghost use Rattle.piet_c.specs.Exported.{Exported};
 ghost use Rattle.piet_c.specs.Calls.{ClassifyCall, LabelCall, BuildCall, table_room, RunCall, ForeverCall};
 
 use base::edition::UNKNOWN_EDITION;
-use base::fill::fill_u64;
+use base::fill::fill;
 use cfg::Built;
 use colour::classify::in_numbers;
 use colour::label::Labelled;
@@ -91,7 +91,7 @@ fn put_ran(answer: &mut [u64], r: Ran) -> u32
 {
     match r {
         Ran::Refused(number) => {
-            fill_u64(answer, 0, RUN_ANSWER, 0);
+            fill(answer, 0, RUN_ANSWER, 0);
             number
         }
         Ran::Finished(e) => {

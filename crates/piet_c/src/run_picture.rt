@@ -8,7 +8,7 @@ ghost use Rattle.piet_c.specs.Exported.{Exported};
 ghost use Rattle.piet_c.specs.Calls.{picture_cells, padded, PictureCall};
 
 use crate::{RUN_ANSWER, put_ended, put_two};
-use base::fill::fill_u64;
+use base::fill::fill;
 use piet::run_picture::{Pictured, run_picture};
 
 // The cells of a picture's answer: a run's, and the count of regions.
@@ -31,7 +31,7 @@ fn put_pictured(answer: &mut [u64], r: Pictured) -> u32
             row,
             column,
         } => {
-            fill_u64(answer, 0, PICTURE_ANSWER, 0);
+            fill(answer, 0, PICTURE_ANSWER, 0);
             put_two(answer, row as u64, column as u64);
             number
         }

@@ -8,7 +8,7 @@ ghost use Rattle.piet_c.specs.Exported.{Exported};
 ghost use Rattle.piet_c.specs.Calls.{VisitsCall};
 
 use crate::{RUN_ANSWER, put_ended};
-use base::fill::fill_u64;
+use base::fill::fill;
 use visits::{Visited, run_visits};
 
 // The cells of its answer: a run's, and the count of nodes never entered.
@@ -21,7 +21,7 @@ fn put_visited(answer: &mut [u64], r: Visited) -> u32
 {
     match r {
         Visited::Refused(number) => {
-            fill_u64(answer, 0, VISITS_ANSWER, 0);
+            fill(answer, 0, VISITS_ANSWER, 0);
             number
         }
         Visited::Finished { ended, unvisited } => {

@@ -7,7 +7,7 @@ ghost use Rattle.region.specs.Room.{Room};
 ghost use Rattle.region.specs.Steps.{Part, Numbered};
 
 use crate::explore::{MARK, explore_region};
-use base::fill::fill_u32;
+use base::fill::fill;
 use picture::grid::CodelGrid;
 
 // Numbers codel i's region, the next one, where codel i has no number yet. Returns the count of
@@ -50,9 +50,9 @@ pub fn number_regions(grid: CodelGrid, map: &mut [u32], work: &mut [u32]) -> usi
     ensures zeros { work.new ≡ replicate (count (grid_at grid.entry)) 0 ++ drop (count (grid_at grid.entry)) work.old }
 {
     let count = grid.shape.rows * grid.shape.cols;
-    fill_u32(map, 0, count, MARK);
+    fill(map, 0, count, MARK);
     let n = scan(grid, map, work);
     // once, at the end: the regions' queues overwrite each other
-    fill_u32(work, 0, count, 0);
+    fill(work, 0, count, 0);
     n
 }

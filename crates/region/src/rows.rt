@@ -8,7 +8,7 @@ ghost use Rattle.region.specs.Rows.{IsTable};
 ghost use Rattle.region.specs.Steps.{begun, Noted};
 
 use crate::codels::codel_colour;
-use base::fill::fill_u32;
+use base::fill::fill;
 use picture::grid::CodelGrid;
 use table::{Field, row_cell, rows_room};
 
@@ -70,7 +70,7 @@ pub fn region_rows(grid: CodelGrid, n: usize, map: &[u32], rows: &mut [u32])
 {
     let count = grid.shape.rows * grid.shape.cols;
     let room = rows_room(count);
-    fill_u32(rows, 0, room, 0);
+    fill(rows, 0, room, 0);
     let mut i = 0;
     while i < count {
         note(grid, i, map, rows);

@@ -7,7 +7,7 @@ ghost use Rattle.interpreter.specs.Outcome.{job_of};
 ghost use Rattle.interpreter.specs.Resume.{Started};
 ghost use Rattle.visits.specs.Counted.{Counted};
 
-use base::fill::fill_u64;
+use base::fill::fill;
 use interpreter::{Ended, run_observed};
 use machine::Terms;
 
@@ -28,7 +28,7 @@ pub fn count_visits(
     ensures started { Started n rows.now exits.now (given terms input.now) (slices stack.old kinds.old values.old) (slices stack.new kinds.new values.new) result }
     ensures counted { Counted n (job_of rows.now exits.now (given terms input.now) (slices stack.old kinds.old values.old)) visits.old visits.new }
 {
-    fill_u64(visits, 0, n, 0);
+    fill(visits, 0, n, 0);
     visits[0] = 1;
     let mut unkept = [0u32; 0];
     run_observed(

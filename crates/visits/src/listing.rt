@@ -4,7 +4,7 @@ ghost use Rattle.table.specs.Layout.{rows_room};
 ghost use Rattle.visits.specs.Visits.{never_entered};
 ghost use Rattle.visits.specs.Counted.{Lists};
 
-use base::fill::fill_u32;
+use base::fill::fill;
 use table::{Field, row_cell};
 
 // Whether a region is a node that was never entered.
@@ -35,6 +35,6 @@ pub fn list_unvisited(n: usize, rows: &[u32], visits: &[u64], unvisited: &mut [u
         }
         i += 1;
     }
-    fill_u32(unvisited, listed, n, 0);
+    fill(unvisited, listed, n, 0);
     listed
 }

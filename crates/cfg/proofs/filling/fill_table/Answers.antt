@@ -1,9 +1,9 @@
 -- `cfg::filling::fill_table` meets its contract: the stages put together (`Stages`).
 -- Assumes nothing.
+use Rattle.std.proofs.Common.{rules}
 use mathlib.Core.Path.{◌∙◌}
 use native.Mathlib.Omega.{arith}
-use Rattle.picture.specs.Codels.{picture_in}
-use Rattle.cfg.proofs.Stages.{mapped, ready, builds, cleared_work}
+use Rattle.cfg.proofs.Stages.{mapped, ready, builds}
 use Rattle.region.proofs.MapLaws.{map_few}
 use Rattle.cfg.proofs.filling.fill_table.Goals as goal
 
@@ -37,8 +37,7 @@ returns c =
     let the-search = c.search in
     let the-keep-nodes = c.keep_nodes in
     let the-args = c.args in
-    let the-fill-u32 = c.fill_u32 in
     builds the-begin.ensures (rw (c.args.grid.framed.rows_are, c.args.grid.framed.cols_are, the-pre.exits_long) at the-leave-by.ensures) the-search.ensures the-keep-nodes.ensures
     (the-keep-nodes.auto.rows ∙ the-search.auto.rows ∙ the-begin.ensures.rows_long)
     (the-keep-nodes.auto.exits ∙ the-search.auto.exits ∙ the-leave-by.auto.best ∙ the-pre.exits_long)
-    (cleared_work (picture_in c.args.grid) the-search.new.work (the-search.auto.work ∙ the-begin.auto.work ∙ the-pre.work_long) the-fill-u32.ensures)
+    (let l = the-search.auto.work ∙ the-begin.auto.work ∙ the-pre.work_long in rw (← l) (search rules))

@@ -45,8 +45,8 @@ bounds-colours-i-else-end-i c =
     let farther : c.loop-i.i < c.alike-end.result = let d = c.if-end-i.false in omega arith in
     let h = farther in omega arith
 
-pub fill_u8-requires : goal.fill_u8-requires
-fill_u8-requires c =
+pub fill-requires : goal.fill-requires
+fill-requires c =
     let farther : c.loop-i.i < c.alike-end.result = let d = c.if-end-i.false in omega arith in
     let h = farther in (omega arith, omega arith)
 
@@ -60,7 +60,7 @@ loop-i-preserved c =
     let farther : c.loop-i.i < c.alike-end.result = let d = c.if-end-i.false in omega arith in
     let l = c.loop-i in
     let a = c.alike-end.ensures in
-    let f = c.fill_u8 in (
+    let f = c.fill in (
       omega arith,
       (
         f.auto.d ∙ l.invariant.1.0,

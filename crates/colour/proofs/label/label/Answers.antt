@@ -23,8 +23,8 @@ put_label-n-requires c =
     allowed a.colour a.row a.column (length a.out.now) (rw (← c.refuses.ensures) c.if-refuses.false) in
     let k = right in ((k.rows, k.columns), k.roomy)
 
-pub fill_u8-requires : goal.fill_u8-requires
-fill_u8-requires c =
+pub fill-requires : goal.fill-requires
+fill-requires c =
     let right : let a = c.args in Allowed a.colour a.row a.column (length a.out.now) =
     let a = c.args in
     allowed a.colour a.row a.column (length a.out.now) (rw (← c.refuses.ensures) c.if-refuses.false) in
@@ -46,5 +46,5 @@ returns c =
       answers = rw (← c.refuses.ensures, c.if-refuses.false) (ap (λ (n : ℕ). numbers 0 (n ∷ [])) (p.next ∙ zero-add _));
       leaves =
           finished (label_length c.args.colour c.args.row c.args.column k.rows k.columns) k.roomy p
-          c.fill_u8.ensures;
+          c.fill.ensures;
     }

@@ -10,4 +10,4 @@ returns-in-Finished c =
 
 pub returns-in-Refused : goal.returns-in-Refused
 returns-in-Refused c =
-    rw c.in-Refused.is (refl, place_put c.args.answer.now c.in-Refused.row c.in-Refused.column 11 c.fill_u64.ensures c.put_two.ensures)
+    rw c.in-Refused.is (refl, place_put c.args.answer.now c.in-Refused.row c.in-Refused.column 11 c.fill.ensures c.put_two.ensures)

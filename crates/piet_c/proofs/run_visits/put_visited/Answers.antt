@@ -9,7 +9,7 @@ use Rattle.piet_c.proofs.run_visits.put_visited.Goals as goal
 pub returns-in-Refused : goal.returns-in-Refused
 unfolding numbered
 returns-in-Refused c =
-    rw c.in-Refused.is (refl, c.fill_u64.ensures ∙ filled_lent c.args.answer.now visit_cells 0)
+    rw c.in-Refused.is (refl, c.fill.ensures ∙ filled_lent c.args.answer.now visit_cells 0)
 
 pub returns-in-Finished : goal.returns-in-Finished
 unfolding numbered

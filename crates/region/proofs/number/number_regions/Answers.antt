@@ -14,14 +14,14 @@ use Rattle.region.proofs.number.number_regions.Goals as goal
 pub scan-n-requires : goal.scan-n-requires
 scan-n-requires c =
     let the-pre = c.requires in
-    let the-fill-u32 = c.fill_u32 in
-    let the-args = c.args in record { room = room_kept the-pre the-fill-u32.auto.d refl; part = part_none (filled_at the-args.map.now (the-args.grid.shape.rows * the-args.grid.shape.cols) unnumbered the-fill-u32.ensures) }
+    let the-fill = c.fill in
+    let the-args = c.args in record { room = room_kept the-pre the-fill.auto.d refl; part = part_none (filled_at the-args.map.now (the-args.grid.shape.rows * the-args.grid.shape.cols) unnumbered the-fill.ensures) }
 
 pub returns : goal.returns
 returns c =
     let the-args = c.args in
     let the-scan = c.scan-n in
-    let the-fill-u32 = c.fill_u32 in
+    let the-fill = c.fill in
     let the-pre = c.requires in
-    let the-fill-u322 = c.fill_u32-2 in
-    let n = the-args.grid.shape.rows * the-args.grid.shape.cols in record { numbers = part_whole the-scan.ensures.part (omega (arith, the-scan.auto.map, the-fill-u32.auto.d, the-pre.map_room)); rest = the-scan.ensures.map_rest ∙ filled_rest the-args.map.now n unnumbered the-fill-u32.ensures; zeros = the-fill-u322.ensures ∙ filled_zero the-scan.new.work n 0 ∙ ap (λ (l : List ℕ). replicate n 0 ++ l) the-scan.ensures.work_rest }
+    let the-fill2 = c.fill-2 in
+    let n = the-args.grid.shape.rows * the-args.grid.shape.cols in record { numbers = part_whole the-scan.ensures.part (omega (arith, the-scan.auto.map, the-fill.auto.d, the-pre.map_room)); rest = the-scan.ensures.map_rest ∙ filled_rest the-args.map.now n unnumbered the-fill.ensures; zeros = the-fill2.ensures ∙ filled_zero the-scan.new.work n 0 ∙ ap (λ (l : List ℕ). replicate n 0 ++ l) the-scan.ensures.work_rest }

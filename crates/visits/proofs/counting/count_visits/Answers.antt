@@ -11,7 +11,7 @@ slice_bounds-run_observed-end c = refl
 
 pub run_observed-requires : goal.run_observed-requires
 run_observed-requires c =
-    let f = c.fill_u64 in
+    let f = c.fill in
     let p = c.requires in
     record {
       good = p.good;
@@ -20,12 +20,12 @@ run_observed-requires c =
 
 pub shape_of-visits : goal.shape_of-visits
 shape_of-visits c =
-    let f = c.fill_u64 in
+    let f = c.fill in
     c.run_observed.auto.visits ∙ length-set f.new.d 0 _ ∙ f.auto.d
 
 pub returns : goal.returns
 returns c =
-    let f = c.fill_u64 in
+    let f = c.fill in
     let p = c.requires in record {
       started = c.run_observed.ensures.started;
       counted = counted c.args.n c.args.visits.now f.new.d p.good.some p.n_in_bounds.0 f.ensures (given c.args.terms c.args.input.now) (slices c.args.stack.now c.args.kinds.now c.args.values.now) p.good (c.run_observed.auto.visits ∙ length-set f.new.d 0 _ ∙ f.auto.d) c.run_observed.ensures.observed_all;

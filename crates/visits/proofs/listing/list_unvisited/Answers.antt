@@ -24,4 +24,4 @@ returns c =
     let the-args = c.args in
     let e : the-loop.i ≡ the-args.n = omega arith in
     let L = rw e at the-loop.invariant.1 in
-    rw c.fill_u32.ensures (all_listed (omega arith) L)
+    rw c.fill.ensures (all_listed (omega arith) L)
