@@ -42,20 +42,6 @@ many_of e h = omega arith
 pub short_of : (m r e w : ℕ) {x y : ℕ} {b v : Bool} → x ≡ y → b ≡ short x m r e w → b ≡ v → short y m r e w ≡ v
 short_of m r e w q h k = (rw q at (sym h)) ∙ k
 
--- the scan for a colour above 19
-module _ (cs : List ℕ) (i : ℕ) (h : i < length cs) where
-  pub legal_stop : 19 < get_or cs i 0 → legal_first (drop i cs) ≡ 0
-  unfolding legal_first
-  legal_stop k = rw (drop-cons cs i 0 h, lt-ltb 19 (get_or cs i 0) k)
-
-  pub legal_more : get_or cs i 0 ≤ 19 → i + legal_first (drop i cs) ≡ (i + 1) + legal_first (drop (i + 1) cs)
-  unfolding legal_first
-  legal_more k = rw (add-one i, drop-cons cs i 0 h, le-ltb 19 (get_or cs i 0) k) (omega arith)
-
-pub legal_end : (cs : List ℕ) (i : ℕ) → length cs ≤ i → legal_first (drop i cs) ≡ 0
-unfolding legal_first
-legal_end cs i h = rw (drop_of_length-le cs {i = i} h)
-
 -- a side has no more codels than pixels and a codel together
 pub ceil_small : (n k : ℕ) → n ≤ 1024 → k ≤ 1024 → ceil n k ≤ 2048
 ceil_small n k h l = omega (arith, div-le_self (n + (k - 1)) k)

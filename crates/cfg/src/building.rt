@@ -28,17 +28,10 @@ pub enum Built {
 
 // How many colours stand before the first above 19.
 fn legal_first(colours: &[u8]) -> usize
-    requires { length colours.now ≤ 1048576 }
     ensures { result ≡ legal_first colours.now }
 {
-    let mut i = 0;
-    while i < colours.len() {
-        if 19 < colours[i] {
-            return i;
-        }
-        i += 1;
-    }
-    i
+    let first = colours.iter().position(|c| 19 < *c);
+    first.unwrap_or(colours.len())
 }
 
 // Whether a lent slice, given by its length, is too short for so many codels.

@@ -23,11 +23,9 @@ fn clear_exits(r: usize, exits: &mut [u32])
     requires r_bound { r < 65536 }
     ensures { Zeros r 8 exits.old exits.new }
 {
-    let mut s = 0;
-    while s < 8 {
+    for s in 0..8 {
         let cell = exit_cell(r, s);
         exits[cell] = 0;
-        s += 1;
     }
 }
 
@@ -53,9 +51,7 @@ pub fn keep_nodes(n: usize, rows: &mut [u32], exits: &mut [u32])
     requires n_bound { n ≤ 65536 }
     ensures { Cleared n rows.old exits.old rows.new exits.new }
 {
-    let mut r = 0;
-    while r < n {
+    for r in 0..n {
         keep_region(r, rows, exits);
-        r += 1;
     }
 }

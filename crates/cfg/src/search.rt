@@ -199,10 +199,8 @@ fn try_states(
     ensures { Several edition (picture_in grid.entry) map.now r 8 rows.old exits.old work.old tail rows.new exits.new work.new result }
 {
     let mut end = tail;
-    let mut state: u8 = 0;
-    while state < 8 {
+    for state in 0..8 {
         end = try_state(grid, edition, map, pairs, r, state, rows, exits, work, end);
-        state += 1;
     }
     end
 }

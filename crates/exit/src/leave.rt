@@ -73,10 +73,8 @@ fn leave_state(map: &[u32], best: &mut [u32], rows: usize, cols: usize, s: Point
     requires { Cells map.now best.old rows cols × Valid s }
     ensures { Cells map.now best.new rows cols × Kept map.now best.old best.new rows cols s (length map.now) }
 {
-    let mut i: usize = 0;
-    while i < map.len() {
+    for i in 0..map.len() {
         keep(map, best, rows, cols, s, i);
-        i += 1;
     }
 }
 
@@ -85,10 +83,8 @@ fn leave_states(map: &[u32], best: &mut [u32], rows: usize, cols: usize)
     requires { Cells map.now best.old rows cols }
     ensures { AllKept map.now best.old best.new rows cols 8 }
 {
-    let mut n: u8 = 0;
-    while n < 8 {
+    for n in 0..8 {
         leave_state(map, best, rows, cols, PointerState::of_number(n));
-        n += 1;
     }
 }
 

@@ -58,11 +58,9 @@ fn expand(
 {
     let colour = codel_colour(grid, i);
     let mut end = tail;
-    let mut way = 0;
-    while way < 4 {
+    for way in 0..4 {
         let j = neighbour(grid, i, way);
         end = visit(grid, colour, number, j, map, work, end);
-        way += 1;
     }
     end
 }

@@ -33,10 +33,8 @@ fn scan(grid: CodelGrid, map: &mut [u32], work: &mut [u32]) -> usize
 {
     let count = grid.shape.rows * grid.shape.cols;
     let mut found = 0;
-    let mut i = 0;
-    while i < count {
+    for i in 0..count {
         found = claim(grid, found, i, map, work);
-        i += 1;
     }
     found
 }

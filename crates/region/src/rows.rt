@@ -71,9 +71,7 @@ pub fn region_rows(grid: CodelGrid, n: usize, map: &[u32], rows: &mut [u32])
     let count = grid.shape.rows * grid.shape.cols;
     let room = rows_room(count);
     fill(rows, 0, room, 0);
-    let mut i = 0;
-    while i < count {
+    for i in 0..count {
         note(grid, i, map, rows);
-        i += 1;
     }
 }

@@ -73,16 +73,6 @@ returns-then-colours-pixels c =
     let the-codel-count = c.codel_count-count in
     on_bytes (picture the-args.height the-args.width the-args.codel the-args.colours.now) the-args.map the-args.rows the-args.exits the-args.work (sym the-wrong-side.ensures ∙ the-if2.false) (sym the-wrong-side2.ensures ∙ the-if3.false) (sym the-wrong-side3.ensures ∙ the-if4.false) (few_of the-codel-count.ensures c.if-count-gt65536.false) c.if-colours-pixels.true ∙ on_known c.args.edition (picture c.args.height c.args.width c.args.codel c.args.colours.now) c.args.map c.args.rows c.args.exits c.args.work (sym c.unknown_edition.ensures ∙ c.if-unknown_edition.false)
 
-pub legal_first-index-requires : goal.legal_first-index-requires
-legal_first-index-requires c =
-    let the-args = c.args in
-    let the-wrong-side = c.wrong_side in
-    let the-if2 = c.if-wrong_side in
-    let the-wrong-side2 = c.wrong_side-2 in
-    let the-if3 = c.if-wrong_side-2 in
-    let a = the-args in
-    omega (arith, c.if-colours-pixels.false, area_small (side a.height (sym the-wrong-side.ensures ∙ the-if2.false)).1 (side a.width (sym the-wrong-side2.ensures ∙ the-if3.false)).1)
-
 pub returns-then-index-pixels : goal.returns-then-index-pixels
 returns-then-index-pixels c =
     let the-args = c.args in

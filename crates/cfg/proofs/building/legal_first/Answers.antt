@@ -1,36 +1,26 @@
-use mathlib.Core.Path.{◌∙◌}
+-- `cfg::building::legal_first` meets its contract: `position` finds the first colour above 19. Assumes nothing.
+use mathlib.Core.Path.{◌≡◌, ◌∙◌, sym, refl}
+use mathlib.Core.List.{List, ◌∷◌}
+use Prim.Native.Nat.{ℕ, ◌+◌, ◌<◌, ◌≤◌}
+use borrow.Author.Tests.{lt-ltb, le-ltb}
 use native.Mathlib.Omega.{arith}
-use Rattle.cfg.proofs.Refusing.{legal_stop, legal_more, legal_end}
+use Rattle.std.proofs.Common.{rules, tests}
+use Rattle.std.proofs.lemmas.Iterator.{YieldsList-from_slice, IsFirst-from_position, index_from_first}
+use Rattle.cfg.specs.Build.{legal_first}
 use Rattle.cfg.proofs.building.legal_first.Goals as goal
 
-pub loop-i-init : goal.loop-i-init
-loop-i-init c = (omega arith, omega arith)
+above : (c : ℕ) (cs : List ℕ) → 19 < c → legal_first (c ∷ cs) ≡ 0
+unfolding legal_first
+above c cs h = rw (lt-ltb 19 c h)
 
-pub bounds-colours-i : goal.bounds-colours-i
-bounds-colours-i c = c.loop-i-test.true
-
-pub returns-then-colours-i-gt19 : goal.returns-then-colours-i-gt19
-returns-then-colours-i-gt19 c =
-    let the-args = c.args in
-    let the-loop = c.loop-i in
-    let the-loop-test = c.loop-i-test in
-    let z = legal_stop the-args.colours.now the-loop.i the-loop-test.true c.if-colours-i-gt19.true in
-    omega (arith, the-loop.invariant.1)
-
-pub loop-i-smaller : goal.loop-i-smaller
-loop-i-smaller c =
-    let the-loop-test = c.loop-i-test in
-    omega (arith, the-loop-test.true)
-
-pub loop-i-preserved : goal.loop-i-preserved
-loop-i-preserved c =
-    let the-loop-test = c.loop-i-test in
-    let the-loop = c.loop-i in
-    let the-args = c.args in
-    (omega (arith, the-loop-test.true), the-loop.invariant.1 ∙ legal_more the-args.colours.now the-loop.i the-loop-test.true c.if-colours-i-gt19.false)
+legal : (c : ℕ) (cs : List ℕ) → c ≤ 19 → legal_first (c ∷ cs) ≡ legal_first cs + 1
+unfolding legal_first
+legal c cs h = rw (le-ltb 19 c h) (omega arith)
 
 pub returns : goal.returns
+unfolding legal_first
 returns c =
-    let the-args = c.args in
-    let z = legal_end the-args.colours.now c.loop-i.i c.loop-i-test.false in
-    omega (arith, c.loop-i.invariant.1)
+    let found =
+    IsFirst-from_position _ _ c.position-first.result (λ x. 19 < x) (λ x. x ≤ 19) c.position-first.ensures.ran (YieldsList-from_slice c.args.colours.now (cc))
+    (λ x q k. search (rules, tests)) (λ x q k. search (rules, tests)) in
+    c.unwrap_or.ensures ∙ sym (index_from_first legal_first (λ x. 19 < x) (λ x. x ≤ 19) refl above legal c.args.colours.now c.position-first.result found)

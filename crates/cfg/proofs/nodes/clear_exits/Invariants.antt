@@ -7,7 +7,4 @@ use Rattle.cfg.specs.Search.{Zeros}
 use Rattle.cfg.proofs.nodes.clear_exits.Given as goal
 
 abbrev pub invariant-loop-s : goal.invariant-loop-s
-invariant-loop-s l = (l.s ≤ 8) × Zeros l.r l.s l.initial.exits l.exits × (length l.exits ≡ length l.initial.exits)
-
-abbrev pub decreases-loop-s : goal.decreases-loop-s
-decreases-loop-s l = 8 - l.s
+invariant-loop-s l = Zeros l.r l.s l.initial.exits l.exits × (length l.exits ≡ length l.initial.exits)

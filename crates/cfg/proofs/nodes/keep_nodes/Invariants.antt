@@ -7,7 +7,4 @@ use Rattle.cfg.specs.Search.{Cleared}
 use Rattle.cfg.proofs.nodes.keep_nodes.Given as goal
 
 abbrev pub invariant-loop-r : goal.invariant-loop-r
-invariant-loop-r l = (l.r ≤ l.n) × Cleared l.r l.initial.rows l.initial.exits l.rows l.exits × (length l.rows ≡ length l.initial.rows) × (length l.exits ≡ length l.initial.exits)
-
-abbrev pub decreases-loop-r : goal.decreases-loop-r
-decreases-loop-r l = l.n - l.r
+invariant-loop-r l = Cleared l.r l.initial.rows l.initial.exits l.rows l.exits × (length l.rows ≡ length l.initial.rows) × (length l.exits ≡ length l.initial.exits)

@@ -7,12 +7,12 @@ pub loop-state-init : goal.loop-state-init
 loop-state-init c =
     let the-args = c.args in
     let the-pre = c.requires in
-    (omega arith, several_none the-args.r the-args.exits.now the-pre.queue)
+    several_none the-args.r the-args.exits.now the-pre.queue
 
 pub try_state-end-requires : goal.try_state-end-requires
 try_state-end-requires c =
     let T = c.requires.taken in
-    let W = c.loop-state.invariant.1 in
+    let W = c.loop-state.invariant in
     let h = c.loop-state-test.true in
     record {
       grounds = T.grounds;
@@ -26,30 +26,25 @@ try_state-end-requires c =
       decodes_pairs = c.requires.decodes_pairs;
     }
 
-pub loop-state-smaller : goal.loop-state-smaller
-loop-state-smaller c =
-    let the-loop-test = c.loop-state-test in
-    omega (arith, the-loop-test.true)
-
 pub loop-state-preserved : goal.loop-state-preserved
 loop-state-preserved c =
     let the-loop-test = c.loop-state-test in
     let the-loop = c.loop-state in
     let the-try-state = c.try_state-end in
     let the-pre = c.requires in
-    (omega (arith, the-loop-test.true), several_more the-loop.invariant.1 the-try-state.ensures the-loop-test.true (omega (arith, the-loop.invariant.1.exits_length, the-pre.taken.exits_long, the-loop-test.true)))
+    several_more the-loop.invariant the-try-state.ensures the-loop-test.true (omega (arith, the-loop.invariant.exits_length, the-pre.taken.exits_long, the-loop-test.true))
 
 pub shape_of-rows : goal.shape_of-rows
-shape_of-rows c = c.loop-state.invariant.1.onward.rows_length
+shape_of-rows c = c.loop-state.invariant.onward.rows_length
 
 pub shape_of-exits : goal.shape_of-exits
-shape_of-exits c = c.loop-state.invariant.1.exits_length
+shape_of-exits c = c.loop-state.invariant.exits_length
 
 pub shape_of-work : goal.shape_of-work
-shape_of-work c = c.loop-state.invariant.1.onward.work_length
+shape_of-work c = c.loop-state.invariant.onward.work_length
 
 pub returns : goal.returns
 returns c =
     let l = c.loop-state in
-    let all : l.state ≡ 8 = omega (arith, l.invariant.0, c.loop-state-test.false) in
-    rw all at l.invariant.1
+    let all : l.state ≡ 8 = omega (arith, l.auto.state-end, c.loop-state-test.false) in
+    rw all at l.invariant

@@ -6,7 +6,4 @@ use Rattle.cfg.specs.Search.{Several}
 use Rattle.cfg.proofs.search.try_states.Given as goal
 
 abbrev pub invariant-loop-state : goal.invariant-loop-state
-invariant-loop-state l = (l.state ≤ 8) × Several l.edition (picture_in l.grid) l.map l.r l.state l.initial.rows l.initial.exits l.initial.work l.tail l.rows l.exits l.work l.end
-
-abbrev pub decreases-loop-state : goal.decreases-loop-state
-decreases-loop-state l = 8 - l.state
+invariant-loop-state l = Several l.edition (picture_in l.grid) l.map l.r l.state l.initial.rows l.initial.exits l.initial.work l.tail l.rows l.exits l.work l.end

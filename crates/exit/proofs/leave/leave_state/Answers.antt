@@ -16,11 +16,10 @@ weighed P h e =
       cells = rw e (cells_more _ _ _ _ _ _ P.cells h P.valid);
       so_far = rw e (kept_more _ _ _ _ _ _ P.cells h P.valid _ P.so_far);
       valid = P.valid;
-      within = omega arith;
     }
 
 pub loop-i-init : goal.loop-i-init
-loop-i-init c = record { cells = c.requires.0; so_far = kept_none _ _ _ _ _; valid = c.requires.1; within = omega arith }
+loop-i-init c = record { cells = c.requires.0; so_far = kept_none _ _ _ _ _; valid = c.requires.1 }
 
 pub keep-requires : goal.keep-requires
 keep-requires c = (c.loop-i.invariant.cells, c.loop-i-test.true, c.loop-i.invariant.valid)
@@ -37,5 +36,5 @@ pub returns : goal.returns
 returns c =
     let a = c.args in
     let l = c.loop-i in
-    let e : l.i ≡ length a.map.now = omega (arith, l.invariant.within, c.loop-i-test.false) in
+    let e : l.i ≡ length a.map.now = omega (arith, l.auto.i-end, c.loop-i-test.false) in
     (l.invariant.cells, subst (Kept a.map.now a.best.now l.best a.rows a.cols a.s) e l.invariant.so_far)

@@ -11,10 +11,6 @@ pub record Passing (map best₀ best : List ℕ) (rows cols : ℕ) (s : PointerS
   pub cells : Cells map best rows cols
   pub so_far : Kept map best₀ best rows cols s i
   pub valid : Valid s
-  pub within : i ≤ length map
 
 abbrev pub invariant-loop-i : goal.invariant-loop-i
 invariant-loop-i l = Passing l.map l.initial.best l.best l.rows l.cols l.s l.i
-
-abbrev pub decreases-loop-i : goal.decreases-loop-i
-decreases-loop-i l = length l.map - l.i

@@ -8,10 +8,6 @@ use Rattle.exit.proofs.leave.leave_states.Given as goal
 pub record Passed (map best₀ best : List ℕ) (rows cols n : ℕ) : Type 0 where
   pub cells : Cells map best rows cols
   pub so_far : AllKept map best₀ best rows cols n
-  pub within : n ≤ 8
 
 abbrev pub invariant-loop-n : goal.invariant-loop-n
 invariant-loop-n l = Passed l.map l.initial.best l.best l.rows l.cols l.n
-
-abbrev pub decreases-loop-n : goal.decreases-loop-n
-decreases-loop-n l = 8 - l.n

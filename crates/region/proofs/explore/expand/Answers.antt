@@ -8,7 +8,7 @@ use Rattle.region.proofs.explore.expand.Goals as goal
 pub loop-way-init : goal.loop-way-init
 loop-way-init c =
     let the-pre = c.requires in
-    (omega arith, spread_none the-pre.tail_bound)
+    spread_none the-pre.tail_bound
 
 pub neighbour-j-requires : goal.neighbour-j-requires
 neighbour-j-requires c =
@@ -19,7 +19,7 @@ pub visit-end-requires : goal.visit-end-requires
 visit-end-requires c =
     let the-pre = c.requires in
     let the-loop = c.loop-way in
-    record { room = room_kept the-pre.room the-loop.invariant.1.map_length the-loop.invariant.1.work_length; tail_bound = the-loop.invariant.1.room }
+    record { room = room_kept the-pre.room the-loop.invariant.map_length the-loop.invariant.work_length; tail_bound = the-loop.invariant.room }
 
 pub loop-way-preserved : goal.loop-way-preserved
 loop-way-preserved c =
@@ -28,20 +28,18 @@ loop-way-preserved c =
     let the-neighbour = c.neighbour-j in
     let the-pre = c.requires in
     let the-codel-colour = c.codel_colour-colour in
-    let the-visit = c.visit-end in (
-      omega (arith, the-loop-test.true),
-      spread_more the-loop.invariant.1 the-neighbour.ensures (omega (arith, the-pre.number_lt_unnumbered)) the-pre.i_bound the-pre.room.map_room the-pre.room.work_room
-          the-codel-colour.ensures the-visit.ensures,
-    )
+    let the-visit = c.visit-end in
+    spread_more the-loop.invariant the-neighbour.ensures (omega (arith, the-pre.number_lt_unnumbered)) the-pre.i_bound the-pre.room.map_room the-pre.room.work_room
+    the-codel-colour.ensures the-visit.ensures
 
 pub shape_of-map : goal.shape_of-map
-shape_of-map c = c.loop-way.invariant.1.map_length
+shape_of-map c = c.loop-way.invariant.map_length
 
 pub shape_of-work : goal.shape_of-work
-shape_of-work c = c.loop-way.invariant.1.work_length
+shape_of-work c = c.loop-way.invariant.work_length
 
 pub returns : goal.returns
 returns c =
     let l = c.loop-way in
-    let all : l.way ≡ 4 = omega (arith, l.invariant.0, c.loop-way-test.false) in
-    rw all at l.invariant.1
+    let all : l.way ≡ 4 = omega (arith, l.auto.way-end, c.loop-way-test.false) in
+    rw all at l.invariant

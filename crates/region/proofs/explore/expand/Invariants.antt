@@ -5,7 +5,4 @@ use Rattle.region.specs.Steps.{Spread}
 use Rattle.region.proofs.explore.expand.Given as goal
 
 abbrev pub invariant-loop-way : goal.invariant-loop-way
-invariant-loop-way l = (l.way ≤ 4) × Spread (grid_at l.grid) l.number l.i l.way l.initial.map l.initial.work l.tail l.map l.work l.end
-
-abbrev pub decreases-loop-way : goal.decreases-loop-way
-decreases-loop-way l = 4 - l.way
+invariant-loop-way l = Spread (grid_at l.grid) l.number l.i l.way l.initial.map l.initial.work l.tail l.map l.work l.end

@@ -7,7 +7,4 @@ use Rattle.region.specs.Steps.{Numbered}
 use Rattle.region.proofs.number.scan.Given as goal
 
 abbrev pub invariant-loop-i : goal.invariant-loop-i
-invariant-loop-i l = (l.i ≤ l.count) × Numbered (grid_at l.grid) l.i l.found l.initial.map l.initial.work l.map l.work × (length l.map ≡ length l.initial.map) × (length l.work ≡ length l.initial.work)
-
-abbrev pub decreases-loop-i : goal.decreases-loop-i
-decreases-loop-i l = l.count - l.i
+invariant-loop-i l = Numbered (grid_at l.grid) l.i l.found l.initial.map l.initial.work l.map l.work × (length l.map ≡ length l.initial.map) × (length l.work ≡ length l.initial.work)

@@ -36,11 +36,6 @@ note-requires c =
       size_field_bound = needs.1.1.1;
     }
 
-pub loop-i-smaller : goal.loop-i-smaller
-loop-i-smaller c =
-    let the-loop-test = c.loop-i-test in
-    omega (arith, the-loop-test.true)
-
 pub loop-i-preserved : goal.loop-i-preserved
 loop-i-preserved c =
     let the-pre = c.requires in

@@ -6,6 +6,3 @@ use Rattle.region.proofs.rows.region_rows.Given as goal
 
 abbrev pub invariant-loop-i : goal.invariant-loop-i
 invariant-loop-i l = Counting (grid_at l.grid) l.grid.shape.codel l.i l.map l.initial.rows l.rows
-
-abbrev pub decreases-loop-i : goal.decreases-loop-i
-decreases-loop-i l = l.count - l.i
