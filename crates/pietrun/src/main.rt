@@ -1,57 +1,27 @@
-// The run program: a job on standard input, its answer on standard output. Where standard input can't be read it prints
-// nothing, since what came of the job is no job (rule 13.7).
+// The run program: a job on standard input, its answer on standard output.
 #![tactic(auto)]
 
-ghost use Rattle.std.specs.Prelude.{◌≡◌, ◌≤◌, length};
-ghost use Rattle.stream.specs.Responds.{Responds};
+ghost use Rattle.answer.proofs.Answering.{answer_within};
+ghost use Rattle.answer.proofs.Cutting.{cut_printed};
 ghost use Rattle.answer.specs.Answer.{Outcome};
 
-use anyhow::{Result, bail};
 use std::process::ExitCode;
-use stream::{Stop, Watched};
+use stream::program::{Program, run};
 
-// The text to print, at the start of out, and its length: the answer to an input that was read whole.
-fn respond(stop: Stop, job: &[u8], out: &mut [u8]) -> usize
-    requires { (8193 ≡ length job.now) × (stop.done ≤ length job.now) }
-    ensures within { result ≤ length out.new }
-    ensures says { Responds Outcome stop job.now out.old result out.new }
-{
-    if !stream::is_whole(stop, job.len()) {
-        return 0;
-    }
-    let n = stop.done;
-    answer::answer(&job[..n], out)
-}
+struct Answer;
 
-// One byte more than the longest job, so that a longer one is seen to be longer.
-const ROOM: usize = 8193;
+impl Program for Answer {
+    ghost Outcome = { Outcome };
 
-// Reads a job and writes what is said of it.
-fn run(rt: &HostRuntime) -> Result<()> {
-    let mut job = [0u8; ROOM];
-    let mut input = Watched::new(rt.stdin());
-    let read = stream::read_whole(rt, &mut input, &mut job);
-    if !stream::is_whole(read, ROOM) {
-        let reason = input.reason();
-        bail!("standard input can't be read: {reason}");
+    fn say(job: &[u8], out: &mut [u8]) -> usize {
+        answer::answer(job, out)
     }
-    let mut out = [0u8; 16384];
-    let n = respond(read, &job, &mut out);
-    let mut output = Watched::new(rt.stdout());
-    let written = stream::write_whole(rt, &mut output, &out[..n]);
-    if written.done < n {
-        let reason = output.reason();
-        bail!("standard output can't be written: {reason}");
-    }
-    Ok(())
+
+    ghost within = { λ job before r after. answer_within };
+
+    ghost cut = { λ job before r after. cut_printed job };
 }
 
 fn main(rt: HostRuntime) -> ExitCode {
-    match run(&rt) {
-        Ok(()) => ExitCode::SUCCESS,
-        Err(error) => {
-            let _ = eprintln!(rt; "pietrun: {error}");
-            ExitCode::FAILURE
-        }
-    }
+    run::<Answer, _, _, 16384>(&rt, "pietrun", rt.stdin(), rt.stdout())
 }

@@ -8,6 +8,8 @@ ghost use Rattle.std.specs.Io.KnownBytes.{Appends, Consumes, IsAtEnd, ReadConsum
 ghost use Rattle.stream.specs.Stream.{step_of, is_end, whole_input, Stops};
 ghost use Rattle.stream.specs.Calls.{moved_of, vain_of, goes_on, Makes, Reads};
 
+pub mod program;
+
 use std::io::{Error, ErrorKind, Read, Write};
 use std::time::{Clock, Duration};
 use std::{io, thread};
