@@ -220,6 +220,7 @@ pub fn search(
     let pairs = pair_table();
     let mut tail = visit(0, rows, work, 0);
     let mut head = 0;
+    // no range: the tail grows as regions are taken
     while head < tail {
         let r = wide(work[head]);
         tail = try_states(grid, edition, map, &pairs, r, rows, exits, work, tail);

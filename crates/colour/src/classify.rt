@@ -96,6 +96,7 @@ fn known_first(pixels: &[u8], n: usize) -> usize
     let palette = PALETTE;
     let likely = LIKELY;
     let mut i = 0;
+    // no range: i goes on by a pixel or by a stretch
     while i < n {
         let end = alike(pixels, i, n);
         if end == i {
@@ -168,6 +169,7 @@ fn paint(pixels: &[u8], n: usize, setting: u8, colours: &mut [u8])
     let palette = PALETTE;
     let likely = LIKELY;
     let mut i: usize = 0;
+    // no range: i goes on by a pixel or by a stretch
     while i < n {
         let end = alike(pixels, i, n);
         if end == i {

@@ -13,14 +13,11 @@ fn repeats(pixels: &[u8], from: usize, to: usize) -> bool
     requires { ((1 ≤ from) × (from ≤ to)) × (3 * to ≤ length pixels.now) }
     ensures { Decides (Repeats pixels.now from to) result }
 {
-    let end = 3 * to;
     let mut same = true;
-    let mut j = 3 * from;
-    while j < end {
+    for j in 3 * from..3 * to {
         if pixels[j] != pixels[j - 3] {
             same = false;
         }
-        j += 1;
     }
     same
 }

@@ -98,6 +98,7 @@ fn walk(grid: CodelGrid, row: usize, col: usize, from: PointerState) -> Walked
     let mut at_col = col;
     let mut state = from;
     let mut watch = begun(row, col, from.dp);
+    // as the Rust's `trace_white`: a labelled loop, left from inside
     'slide: loop {
         let dp = state.dp;
         if meets(watch, at_row, at_col, dp) {

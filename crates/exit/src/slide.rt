@@ -60,6 +60,7 @@ pub fn rust_slide(grid: CodelGrid, row: usize, col: usize, from: PointerState) -
     let mut at_col = col;
     let mut state = from;
     let mut turns: u8 = 0;
+    // as the Rust's: a labelled loop, left from inside
     'slide: loop {
         if turns == LAST_TURN {
             break 'slide None;

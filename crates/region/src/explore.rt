@@ -78,6 +78,7 @@ pub fn explore_region(grid: CodelGrid, number: u32, seed: usize, map: &mut [u32]
     work[0] = seed as u32;
     let mut head = 0;
     let mut tail = 1;
+    // no range: the tail grows as codels are taken
     while head < tail {
         let i = work[head] as usize;
         tail = expand(grid, number, i, map, work, tail);

@@ -9,7 +9,7 @@ use Rattle.colour.proofs.stretch.repeats.Goals as goal
 use Rattle.colour.proofs.stretch.repeats.Goals.{then-pixels-j, else-pixels-j}
 
 pub loop-j-init : goal.loop-j-init
-loop-j-init c = ((omega arith, omega arith), none_yet c.args.pixels.now (3 * c.args.from))
+loop-j-init c = none_yet c.args.pixels.now (3 * c.args.from)
 
 pub loop-j-preserved : goal.loop-j-preserved
 loop-j-preserved c =
@@ -17,17 +17,15 @@ loop-j-preserved c =
     let l = c.loop-j in
     let p = a.pixels.now in
     let past : 3 ≤ l.j = omega arith in
-    let D : Bool → Type 0 = Decides (RepeatedBytes p (3 * a.from) (l.j + 1)) in (
-      (omega arith, omega arith),
-      elim c.if-pixels-j.branch [
-        | then-pixels-j w ↦ subst D (sym w.same-is) (differs p (3 * a.from) l.j l.invariant.0.0 past w.if-pixels-j.true)
-        | else-pixels-j w ↦ subst D (sym w.same-is) (still p (3 * a.from) l.j l.invariant.0.0 past l.same w.if-pixels-j.false l.invariant.1)
-      ],
-    )
+    let D : Bool → Type 0 = Decides (RepeatedBytes p (3 * a.from) (l.j + 1)) in
+    elim c.if-pixels-j.branch [
+      | then-pixels-j w ↦ subst D (sym w.same-is) (differs p (3 * a.from) l.j l.auto.j past w.if-pixels-j.true)
+      | else-pixels-j w ↦ subst D (sym w.same-is) (still p (3 * a.from) l.j l.auto.j past l.same w.if-pixels-j.false l.invariant)
+    ]
 
 pub returns : goal.returns
 returns c =
     let a = c.args in
     let l = c.loop-j in
-    let e : l.j ≡ 3 * a.to = omega arith in
-    subst (λ (j : ℕ). Decides (RepeatedBytes a.pixels.now (3 * a.from) j) l.same) e l.invariant.1
+    let e : l.j ≡ 3 * a.to = omega (arith, l.auto.j-end) in
+    subst (λ (j : ℕ). Decides (RepeatedBytes a.pixels.now (3 * a.from) j) l.same) e l.invariant

@@ -6,7 +6,4 @@ use Rattle.colour.specs.Stretch.{RepeatedBytes}
 use Rattle.colour.proofs.stretch.repeats.Given as goal
 
 abbrev pub invariant-loop-j : goal.invariant-loop-j
-invariant-loop-j l = ((3 * l.from ≤ l.j) × (l.j ≤ l.end)) × Decides (RepeatedBytes l.pixels (3 * l.from) l.j) l.same
-
-abbrev pub decreases-loop-j : goal.decreases-loop-j
-decreases-loop-j l = l.end - l.j
+invariant-loop-j l = Decides (RepeatedBytes l.pixels (3 * l.from) l.j) l.same
