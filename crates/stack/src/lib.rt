@@ -10,7 +10,6 @@ ghost use Rattle.stack.specs.Instr as Instr;
 ghost use Rattle.stack.specs.Exchange.{exchanged, reversal, three_reversals};
 
 use base::edition::Edition;
-use word::Divided;
 
 // v on top, where there is room. With pop and put the only function that stores one value: all others are made of these.
 fn push(stack: &mut [i64], depth: usize, v: i64) -> usize
@@ -98,16 +97,16 @@ fn above(b: i64, a: i64) -> i64
 }
 
 // What op gives of b and a: a value, or nothing.
-fn combine(op: Pairing, b: i64, a: i64, edition: Edition) -> Divided
+fn combine(op: Pairing, b: i64, a: i64, edition: Edition) -> Option<i64>
     ensures { values result ≡ Instr.combined edition op b a }
 {
     match op {
-        Pairing::Add => Divided::Value(word::wrapping_add(b, a)),
-        Pairing::Sub => Divided::Value(word::wrapping_sub(b, a)),
-        Pairing::Mul => Divided::Value(word::wrapping_mul(b, a)),
+        Pairing::Add => Some(word::wrapping_add(b, a)),
+        Pairing::Sub => Some(word::wrapping_sub(b, a)),
+        Pairing::Mul => Some(word::wrapping_mul(b, a)),
         Pairing::Div => word::div(b, a),
         Pairing::Mod => word::modulo(b, a, edition),
-        Pairing::Gt => Divided::Value(above(b, a)),
+        Pairing::Gt => Some(above(b, a)),
     }
 }
 
@@ -121,7 +120,7 @@ pub fn pair(stack: &mut [i64], depth: usize, op: Pairing, edition: Edition) -> u
     }
     let a = stack[depth - 1];
     let b = stack[depth - 2];
-    let Divided::Value(v) = combine(op, b, a, edition) else {
+    let Some(v) = combine(op, b, a, edition) else {
         return undo(stack, depth, edition);
     };
     replace(stack, depth, v)

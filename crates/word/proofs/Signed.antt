@@ -32,17 +32,7 @@ is_non_neg (negsuc n) f t = absurd (no (ap (λ (z : ℤ). lt_z z (pos 0)) (sym (
     no : true ≡ false → ⊥
     no e = let z : ◌≡◌ {A = ℕ} 0 1 = cc in omega arith
 
--- the complement of a negative number's bits
-pub flip : (n : ℕ) → n < 2 ^ 63 → to_z w64 ((2 ^ 64 - 1) - (2 ^ 64 - suc n)) ≡ pos n
-flip n h = ap (to_z w64) (twice n h) ∙ to_z_pos w64 h
-  where
-    twice : (n : ℕ) → n < 2 ^ 63 → (2 ^ 64 - 1) - (2 ^ 64 - suc n) ≡ n
-    twice n h = omega arith
-
--- what the code casts on each side of the test: `!x`, and x
-abbrev pub Flipped : ℤ → ℤ
-Flipped x = to_z w64 ((2 ^ 64 - 1) - of_z w64 x)
-
+-- what the code casts
 abbrev pub Same : ℤ → ℤ
 Same x = to_z w64 (of_z w64 x)
 
@@ -50,16 +40,10 @@ Same x = to_z w64 (of_z w64 x)
 abbrev pub Casts : ℤ → Type 0
 Casts z = T (non_neg z) × Fits w64 (nat_abs z)
 
-pub casts_neg : {x : ℤ} → Neg x → Casts (Flipped x)
-casts_neg (neg n h) = rw (flip n h) (tt, omega arith)
-
 pub casts_pos : {x : ℤ} → NonNeg x → Casts (Same x)
 casts_pos (nonneg n h) = rw (to_z_pos w64 h) (tt, omega arith)
 
 -- and what it gives
-pub cast_neg : {x : ℤ} → Neg x → nat_abs (Flipped x) ≡ mag x
-cast_neg (neg n h) = rw (flip n h) refl
-
 pub cast_pos : {x : ℤ} → NonNeg x → nat_abs (Same x) ≡ mag x
 cast_pos (nonneg n h) = rw (to_z_pos w64 h) refl
 
@@ -75,12 +59,6 @@ toZ_signed64 u = sel_cond (ltb u (2 ^ 63)) (pos u) (negsuc (2 ^ 64 - suc u))
 -- two numbers with the same bits, as a test `x == y` of the code says it
 pub same_bits : {x y : ℤ} → SFits w64 x → SFits w64 y → of_z w64 x ≡ of_z w64 y → x ≡ y
 same_bits f g e = sym (to_z-of_z f) ∙ ap (to_z w64) e ∙ to_z-of_z g
-
--- only 0 has no bits
-pub nonzero : (x : ℤ) → SFits w64 x → (x ≡ pos 0 → ⊥) → 0 < of_z w64 x
-nonzero (pos zero) f h = absurd (h refl)
-nonzero (pos (suc n)) f h = omega arith
-nonzero (negsuc n) f h = omega (arith, f.sfits)
 
 -- a number that is not 0, as the definitions test it
 pub is_not_zero : (a : ℤ) → (a ≡ pos 0 → ⊥) → is_zero a ≡ false

@@ -1,8 +1,9 @@
 -- Laws of wrapping: residues modulo 2^64 of sums, differences and products, and that wrapping leaves a number that fits as it is.
-use Rattle.std.proofs.Common.{◌≡◌, ℕ, zero, suc, ◌+◌, ◌-◌, ◌*◌, ◌/◌, ◌%◌, ◌^◌, ◌<◌, ◌≤◌, Bool, true, false, cond, ltb, ℤ, pos, negsuc, ◌+ℤ◌, ◌-ℤ◌, ◌*ℤ◌, neg_ℤ, sym, refl, ap, ◌∙◌, mod-lt, mod-eq_of_lt, mul_comm, div-lt_iff_lt-mul, add-mul, zero-add, div-le_self, arith, w64, SFits, ltb-false, ltb-true}
-use native.Mathlib.Nat.{mod_self, suc-mod, mul-mod_left}
-use lib.IntN.{+ℤ_idl}
+use Rattle.std.proofs.Common.{◌≡◌, ℕ, zero, suc, ◌+◌, ◌-◌, ◌/◌, ◌%◌, ◌^◌, ◌<◌, ◌≤◌, Bool, true, false, cond, ltb, ℤ, pos, negsuc, neg_ℤ, sym, refl, ap, ◌∙◌, mod-lt, mod-eq_of_lt, mul_comm, div-lt_iff_lt-mul, div-le_self, arith, w64, SFits, to_z, of_z, nat_abs, ltb-false, ltb-true}
+use native.Mathlib.Nat.{mod_self, suc-mod}
 use lib.Signed.{mag, quot_z, rem_z}
+use Rattle.std.specs.Int.{int_rem_euclid, int_wrap}
+use Rattle.word.proofs.Signed.{toZ_signed64}
 use Rattle.word.specs.Word.{residue, signed64, wrap}
 
 abbrev M : ℕ
@@ -13,72 +14,25 @@ unfolding residue
 below (pos n) = omega arith
 below (negsuc n) = omega arith
 
--- ---- the sum
+-- ---- the library's words: the bits of a number whose absolute value is 2^63 at most, and what wrapping leaves
 
--- the difference of two naturals, by cases
-sub_case : (a b : ℕ) (t : Bool) → ltb a b ≡ t → residue (cond t (negsuc (b - suc a)) (pos (a - b))) M ≡ (a % M + (M - b % M)) % M
+pub bits_are : (z : ℤ) → nat_abs z ≤ 2 ^ 63 → of_z w64 z ≡ residue z (2 ^ 64)
 unfolding residue
-sub_case a b true e = let h = ltb-true a b e in omega arith
-sub_case a b false e = let h = ltb-false a b e in omega arith
+bits_are (pos n) h = omega arith
+bits_are (negsuc n) h = omega arith
 
-pub residue_add : (a b : ℤ) → residue (a +ℤ b) (2 ^ 64) ≡ (residue a (2 ^ 64) + residue b (2 ^ 64)) % 2 ^ 64
+pub wraps : (z : ℤ) → nat_abs z ≤ 2 ^ 63 → to_z w64 (of_z w64 z) ≡ wrap z
+unfolding wrap
+wraps z h = toZ_signed64 (of_z w64 z) ∙ ap signed64 (bits_are z h)
+
+pub euclid_is : (z : ℤ) (m : ℕ) → int_rem_euclid z (pos m) ≡ pos (residue z m)
 unfolding residue
-residue_add (pos a) (pos b) = omega arith
-residue_add (pos a) (negsuc b) = omega (arith, sub_case a (suc b) (ltb a (suc b)) refl)
-residue_add (negsuc a) (pos b) = omega (arith, sub_case b (suc a) (ltb b (suc a)) refl)
-residue_add (negsuc a) (negsuc b) = omega arith
+euclid_is (pos n) m = refl
+euclid_is (negsuc n) m = ap pos (omega arith)
 
--- ---- the negation, and the difference
-
-pub residue_neg : (p : ℕ) → residue (neg_ℤ (pos p)) (2 ^ 64) ≡ (2 ^ 64 - p % 2 ^ 64) % 2 ^ 64
-unfolding residue
-residue_neg zero = refl
-residue_neg (suc p) = omega arith
-
-neg_back : (a : ℤ) → (residue (neg_ℤ a) M + residue a M) % M ≡ 0
-unfolding residue
-neg_back (pos p) = omega (arith, residue_neg p)
-neg_back (negsuc n) = omega arith
-
-pub residue_sub : (b a : ℤ) (r : ℕ) → r < 2 ^ 64 → (r + residue a (2 ^ 64)) % 2 ^ 64 ≡ residue b (2 ^ 64) → r ≡ residue (b -ℤ a) (2 ^ 64)
-unfolding residue
-residue_sub b a r h e = omega (arith, residue_add b (neg_ℤ a), neg_back a, below a, below b, below (neg_ℤ a))
-
--- ---- the product
-
--- x and s are each other's negation modulo 2^64
-opposite : (x s t : ℕ) → x + s ≡ M → (x * t + s * t) ≡ t * M
-opposite x s t e = sym (add-mul x s t) ∙ ap (λ (k : ℕ). k * t) e ∙ mul_comm M t
-
-both : (x s y t : ℕ) → x + s ≡ M → y + t ≡ M → (x * y) % M ≡ (s * t) % M
-both x s y t p q =
-    join (x * y) (x * t) (s * t)
-    (ap (λ (k : ℕ). k % M) (ap₂ (mul_comm x y) (mul_comm x t) ∙ opposite y t x q) ∙ mul-mod_left x M)
-    (ap (λ (k : ℕ). k % M) (opposite x s t p) ∙ mul-mod_left t M)
-  where
-    ap₂ : {a b c d : ℕ} → a ≡ b → c ≡ d → a + c ≡ b + d
-    ap₂ p q = cc
-
-    -- apart from the products: with them in reach `omega` meets numbers of more than 38 digits
-    join : (p q r : ℕ) → (p + q) % M ≡ 0 → (q + r) % M ≡ 0 → p % M ≡ r % M
-    join p q r e f = omega arith
-
-one : (y t m : ℕ) → y + t ≡ M → residue (neg_ℤ (pos (m * t))) M ≡ (m * y) % M
-unfolding residue
-one y t m q = omega (arith, residue_neg (m * t), opposite y t m q, mul_comm m y, mul_comm m t)
-
-pub residue_mul : (a b : ℤ) → SFits w64 a → SFits w64 b → residue (a *ℤ b) (2 ^ 64) ≡ (residue a (2 ^ 64) * residue b (2 ^ 64)) % 2 ^ 64
-unfolding residue
-residue_mul (pos a) (pos b) f g =
-    rw (mod-eq_of_lt {n = a} {m = M} (omega arith), mod-eq_of_lt {n = b} {m = M} (omega arith)) refl
-residue_mul (pos a) (negsuc b) f g =
-    rw (mod-eq_of_lt {n = a} {m = M} (omega arith), mod-eq_of_lt {n = b} {m = M} (omega arith)) (one (M - suc b) (suc b) a (omega arith))
-residue_mul (negsuc a) (pos b) f g =
-    rw (mod-eq_of_lt {n = a} {m = M} (omega arith), mod-eq_of_lt {n = b} {m = M} (omega arith), mul_comm (suc a) b, mul_comm (M - suc a) b)
-    (one (M - suc a) (suc a) b (omega arith))
-residue_mul (negsuc a) (negsuc b) f g =
-    rw (mod-eq_of_lt {n = a} {m = M} (omega arith), mod-eq_of_lt {n = b} {m = M} (omega arith))
-    (sym (both (M - suc a) (suc a) (M - suc b) (suc b) (omega arith) (omega arith)))
+pub int_wrap_is : (z : ℤ) → int_wrap w64 z ≡ wrap z
+unfolding int_wrap wrap
+int_wrap_is z = toZ_signed64 _ ∙ ap (λ (r : ℤ). signed64 (nat_abs r)) (euclid_is z (2 ^ 64))
 
 -- ---- a number that fits is its own wrap
 
@@ -120,12 +74,16 @@ quot_fits (negsuc b) (pos a) f h = record { sfits = mag_neg (suc b / a) (omega (
 quot_fits (negsuc b) (negsuc zero) f h = absurd (h refl)
 quot_fits (negsuc b) (negsuc (suc a)) f h = record { sfits = least b a f.sfits }
 
-by_one : (n : ℕ) → n ≡ n / 1
-by_one n = omega arith
+abs_neg : (n : ℕ) → nat_abs (neg_ℤ (pos n)) ≡ n
+abs_neg zero = refl
+abs_neg (suc n) = refl
 
-pub quot_minus_one : (b : ℤ) → pos 0 -ℤ b ≡ quot_z b (negsuc 0)
-quot_minus_one (pos b) = +ℤ_idl (neg_ℤ (pos b)) ∙ ap (λ (n : ℕ). neg_ℤ (pos n)) (by_one b)
-quot_minus_one (negsuc b) = ap pos (zero-add (suc b) ∙ by_one (suc b))
+-- the quotient by -1 too, which may be 2^63
+pub quot_abs : (b a : ℤ) → nat_abs (quot_z b a) ≤ nat_abs b
+quot_abs (pos b) (pos a) = div-le_self b a
+quot_abs (pos b) (negsuc a) = rw abs_neg (div-le_self b (suc a))
+quot_abs (negsuc b) (pos a) = rw abs_neg (div-le_self (suc b) a)
+quot_abs (negsuc b) (negsuc a) = div-le_self (suc b) (suc a)
 
 -- ---- the residue from the remainder
 

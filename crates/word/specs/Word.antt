@@ -1,9 +1,7 @@
 -- The machine's numbers: integers from -2^63 to 2^63 - 1 (rule 9.10). Assumes nothing.
-use Rattle.std.specs.Prelude.{ℕ, suc, ◌-◌, ◌/◌, ◌%◌, ◌^◌, Bool, false, cond, ◌||◌, List, [], ◌∷◌, ℤ, pos, negsuc, ◌-ℤ◌, ◌*ℤ◌, neg_ℤ, ◌==◌, int_div, nat_lt, unsigned_abs}
+use Rattle.std.specs.Prelude.{ℕ, suc, ◌-◌, ◌/◌, ◌%◌, ◌^◌, Option, Some, None, Bool, false, cond, ◌||◌, List, [], ◌∷◌, ℤ, pos, negsuc, ◌-ℤ◌, ◌*ℤ◌, neg_ℤ, ◌==◌, int_div, nat_lt, unsigned_abs}
 use Rattle.base.specs.Edition.{by_edition}
 use Rattle.base.specs.declared.edition.Edition.{Edition}
-use Rattle.word.specs.declared.Divided.{Divided}
-use Rattle.word.specs.declared.Divided.TheVariants.{Value, Nothing}
 
 -- z modulo m, never negative: -1 modulo m is m - 1
 unfoldable pub residue : ℤ → ℕ → ℕ
@@ -49,6 +47,6 @@ unfoldable pub remainder : Edition → ℤ → ℤ → List ℤ
 remainder e b a = by_edition e (rust_remainder b a) (page_remainder b a)
 
 -- what a division gives, in a list
-abbrev pub values : Divided → List ℤ
-values (Value v) = v ∷ []
-values Nothing = []
+abbrev pub values : Option ℤ → List ℤ
+values (Some v) = v ∷ []
+values None = []

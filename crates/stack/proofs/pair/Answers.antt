@@ -1,11 +1,10 @@
 -- `stack::pair` meets its contract: the two uppermost cells go, and what `combine` gave comes. Assumes nothing.
-use mathlib.Core.Path.{◌≡◌, sym, ap, ◌∙◌}
+use Rattle.std.proofs.Common.{Option, ◌≡◌, sym, ap, ◌∙◌}
 use Prim.Native.Nat.{◌-◌}
 use lib.ListN.{get_or}
 use lib.IntN.{ℤ, pos}
 use Rattle.word.proofs.Signed.{back}
 use Rattle.word.specs.Word.{values}
-use Rattle.word.specs.declared.Divided.{Divided}
 use Rattle.stack.specs.Instr.{combined}
 use Rattle.stack.proofs.Cells.{few, left, gone}
 use Rattle.stack.proofs.pair.Goals as goal
@@ -17,7 +16,7 @@ pub returns-in_default : goal.returns-in_default
 returns-in_default c =
     let top : ℤ = get_or c.args.stack.now (c.args.depth - 1) (pos 0) in
     let second : ℤ = get_or c.args.stack.now (c.args.depth - 2) (pos 0) in
-    let Combined : Divided → Type 0 = λ r. combined c.args.edition c.args.op second top ≡ values r in
+    let Combined : Option ℤ → Type 0 = λ r. combined c.args.edition c.args.op second top ≡ values r in
     let combined-is : Combined c.combine.result =
     let a = back top c.a-1.given in
     let b = back second c.b-1.given in
@@ -29,10 +28,10 @@ pub returns : goal.returns
 returns c =
     let top : ℤ = get_or c.args.stack.now (c.args.depth - 1) (pos 0) in
     let second : ℤ = get_or c.args.stack.now (c.args.depth - 2) (pos 0) in
-    let Combined : Divided → Type 0 = λ r. combined c.args.edition c.args.op second top ≡ values r in
+    let Combined : Option ℤ → Type 0 = λ r. combined c.args.edition c.args.op second top ≡ values r in
     let combined-is : Combined c.combine.result =
     let a = back top c.a-1.given in
     let b = back second c.b-1.given in
     sym (rw (a, b) at c.combine.ensures) in
-    let w = back c.in-Value.v c.in-Value.known_told-1-own.given.0.1 in
-    left _ _ c.if-depth-lt2.false (combined-is ∙ ap values c.in-Value.is) (rw w at c.replace.ensures)
+    let w = back c.in-Some.v c.in-Some.known_told-1-own.given.0.1 in
+    left _ _ c.if-depth-lt2.false (combined-is ∙ ap values c.in-Some.is) (rw w at c.replace.ensures)

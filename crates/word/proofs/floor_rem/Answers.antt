@@ -54,35 +54,35 @@ moved-below b (neg k f) t =
 
 pub returns-then-r-gt0 : goal.returns-then-r-gt0
 returns-then-r-gt0 c =
-    let rem_is : to_z w64 (of_z w64 c.rem-r.result) ≡ rem_z c.args.b c.args.a = back c.rem-r.result c.rem-r.type_inv ∙ rw (to_z-of_z c.ranges.b, to_z-of_z c.ranges.a) at c.rem-r.ensures in
+    let rem_is : to_z w64 (of_z w64 c.wrapping_rem-r.result) ≡ rem_z c.args.b c.args.a = back c.wrapping_rem-r.result c.wrapping_rem-r.type_inv ∙ rw (to_z-of_z c.ranges.b, to_z-of_z c.ranges.a) at c.wrapping_rem-r.ensures in
     let is-neg : Neg c.args.a = is_neg _ c.ranges.a c.if-a-lt0.true in
     let Sum : Type 0 =
-    to_z w64 (of_z w64 c.rem-r.result) +ℤ to_z w64 (of_z w64 c.args.a) ≡ left c.args.b c.args.a in
+    to_z w64 (of_z w64 c.wrapping_rem-r.result) +ℤ to_z w64 (of_z w64 c.args.a) ≡ left c.args.b c.args.a in
     let sum_below : Sum =
     rw (rem_is, to_z-of_z c.ranges.a) (moved-below c.args.b is-neg (rw rem_is at c.if-r-gt0.true)) in
-    let fits : SFits w64 (left c.args.b c.args.a) = left_fits c.args.b c.args.a c.ranges.a c.requires.0 in
+    let fits : SFits w64 (left c.args.b c.args.a) = left_fits c.args.b c.args.a c.ranges.a c.requires in
     rw sum_below (to_z-of_z fits)
 
 pub returns-then-a-lt0 : goal.returns-then-a-lt0
 returns-then-a-lt0 c =
-    let rem_is : to_z w64 (of_z w64 c.rem-r.result) ≡ rem_z c.args.b c.args.a = back c.rem-r.result c.rem-r.type_inv ∙ rw (to_z-of_z c.ranges.b, to_z-of_z c.ranges.a) at c.rem-r.ensures in
+    let rem_is : to_z w64 (of_z w64 c.wrapping_rem-r.result) ≡ rem_z c.args.b c.args.a = back c.wrapping_rem-r.result c.wrapping_rem-r.type_inv ∙ rw (to_z-of_z c.ranges.b, to_z-of_z c.ranges.a) at c.wrapping_rem-r.ensures in
     let is-neg : Neg c.args.a = is_neg _ c.ranges.a c.if-a-lt0.true in
     rem_is ∙ kept-below c.args.b is-neg (rw rem_is at c.if-r-gt0.false)
 
 pub returns-then-r-lt0 : goal.returns-then-r-lt0
 returns-then-r-lt0 c =
-    let rem_is : to_z w64 (of_z w64 c.rem-r.result) ≡ rem_z c.args.b c.args.a = back c.rem-r.result c.rem-r.type_inv ∙ rw (to_z-of_z c.ranges.b, to_z-of_z c.ranges.a) at c.rem-r.ensures in
+    let rem_is : to_z w64 (of_z w64 c.wrapping_rem-r.result) ≡ rem_z c.args.b c.args.a = back c.wrapping_rem-r.result c.wrapping_rem-r.type_inv ∙ rw (to_z-of_z c.ranges.b, to_z-of_z c.ranges.a) at c.wrapping_rem-r.ensures in
     let is-nonneg : NonNeg c.args.a = is_non_neg _ c.ranges.a c.if-a-lt0.false in
     let Sum : Type 0 =
-    to_z w64 (of_z w64 c.rem-r.result) +ℤ to_z w64 (of_z w64 c.args.a) ≡ left c.args.b c.args.a in
+    to_z w64 (of_z w64 c.wrapping_rem-r.result) +ℤ to_z w64 (of_z w64 c.args.a) ≡ left c.args.b c.args.a in
     let sum-above : Sum =
     rw (rem_is, to_z-of_z c.ranges.a)
-    (moved c.args.b is-nonneg c.requires.0 (rw rem_is at c.if-r-lt0.true)) in
-    let fits : SFits w64 (left c.args.b c.args.a) = left_fits c.args.b c.args.a c.ranges.a c.requires.0 in
+    (moved c.args.b is-nonneg c.requires (rw rem_is at c.if-r-lt0.true)) in
+    let fits : SFits w64 (left c.args.b c.args.a) = left_fits c.args.b c.args.a c.ranges.a c.requires in
     rw sum-above (to_z-of_z fits)
 
 pub returns : goal.returns
 returns c =
-    let rem_is : to_z w64 (of_z w64 c.rem-r.result) ≡ rem_z c.args.b c.args.a = back c.rem-r.result c.rem-r.type_inv ∙ rw (to_z-of_z c.ranges.b, to_z-of_z c.ranges.a) at c.rem-r.ensures in
+    let rem_is : to_z w64 (of_z w64 c.wrapping_rem-r.result) ≡ rem_z c.args.b c.args.a = back c.wrapping_rem-r.result c.wrapping_rem-r.type_inv ∙ rw (to_z-of_z c.ranges.b, to_z-of_z c.ranges.a) at c.wrapping_rem-r.ensures in
     let is-nonneg : NonNeg c.args.a = is_non_neg _ c.ranges.a c.if-a-lt0.false in
-    rem_is ∙ kept c.args.b is-nonneg c.requires.0 (rw rem_is at c.if-r-lt0.false)
+    rem_is ∙ kept c.args.b is-nonneg c.requires (rw rem_is at c.if-r-lt0.false)

@@ -4,11 +4,6 @@ use Rattle.word.specs.Word.{residue}
 use Rattle.word.proofs.Wrapping.{residue_lt}
 use Rattle.word.proofs.low32.Goals as goal
 
-pub returns : goal.returns
-returns c =
-    let is : c.residue.result ≡ residue c.args.x (2 ^ 32) = c.residue.ensures ∙ ap (λ (z : ℤ). residue z (2 ^ 32)) (to_z-of_z c.ranges.x) in
-    is
-
 pub overflow_cast-result : goal.overflow_cast-result
 overflow_cast-result c =
     let is : c.residue.result ≡ residue c.args.x (2 ^ 32) = c.residue.ensures ∙ ap (λ (z : ℤ). residue z (2 ^ 32)) (to_z-of_z c.ranges.x) in

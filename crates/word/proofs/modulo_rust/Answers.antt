@@ -38,16 +38,6 @@ returns-then-m c =
     let abs_is : c.abs-m.result ≡ nat_abs c.args.a = c.abs-m.ensures ∙ ap nat_abs (to_z-of_z c.ranges.a) in
     by-least c.args.b c.args.a (sym abs_is ∙ c.if-m.true)
 
-pub residue-requires : goal.residue-requires
-residue-requires c =
-    let abs_is : c.abs-m.result ≡ nat_abs c.args.a = c.abs-m.ensures ∙ ap nat_abs (to_z-of_z c.ranges.a) in
-    let below : (0 < c.abs-m.result) × (c.abs-m.result < 2 ^ 63) =
-    let k = natAbs-le64 c.args.a c.ranges.a.sfits in
-    let e = abs_is in
-    let m = c.abs-m.result in
-    (pos-of-ne m c.if-m-eq0.false, lt_of_ne m (2 ^ 63) (omega arith) c.if-m.false) in
-    below
-
 pub returns : goal.returns
 returns c =
     let abs_is : c.abs-m.result ≡ nat_abs c.args.a = c.abs-m.ensures ∙ ap nat_abs (to_z-of_z c.ranges.a) in
