@@ -69,10 +69,7 @@ fn put_place(out: &mut [u8], at: usize, n: usize) -> usize
 fn is_entry(row: usize, column: usize) -> bool
     ensures { result ≡ is_entry row column }
 {
-    if row == 0 {
-        return column == 0;
-    }
-    false
+    row == 0 && column == 0
 }
 
 // The label at the start of out.

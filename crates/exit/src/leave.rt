@@ -49,10 +49,7 @@ fn better_of(map: &[u32], rows: usize, cols: usize, s: PointerState, i: usize, j
     requires { (0 < cols) × (length map.now ≡ rows * cols) × (i < length map.now) × (j < length map.now) × Valid s }
     ensures { result ≡ better map.now rows cols s i j }
 {
-    if map[j] == map[i] {
-        if beats_codel(rows, cols, s, i, j) {
-            return i;
-        }
+    if map[j] == map[i] && !beats_codel(rows, cols, s, i, j) {
         return j;
     }
     i

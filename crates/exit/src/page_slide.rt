@@ -49,19 +49,7 @@ fn begun(row: usize, col: usize, dp: u8) -> Watch
 fn meets(w: Watch, row: usize, col: usize, dp: u8) -> bool
     ensures { Decides (Met w row col dp) result }
 {
-    if w.looks == 0 {
-        return false;
-    }
-    if w.row != row {
-        return false;
-    }
-    if w.col != col {
-        return false;
-    }
-    if w.dp != dp {
-        return false;
-    }
-    true
+    0 < w.looks && w.row == row && w.col == col && w.dp == dp
 }
 
 // The watch after one more look, from the station given.

@@ -95,29 +95,17 @@ pub fn ahead(rows: usize, cols: usize, row: usize, col: usize, dp: u8) -> Option
     ensures { result ≡ ahead_of rows cols row col dp }
 {
     match dp {
-        0 => {
-            if col + 1 < cols {
-                return Some((row, col + 1));
-            }
+        0 => if col + 1 < cols {
+            Some((row, col + 1))
+        } else {
             None
-        }
-        1 => {
-            if row + 1 < rows {
-                return Some((row + 1, col));
-            }
+        },
+        1 => if row + 1 < rows {
+            Some((row + 1, col))
+        } else {
             None
-        }
-        2 => {
-            if 0 < col {
-                return Some((row, col - 1));
-            }
-            None
-        }
-        _ => {
-            if 0 < row {
-                return Some((row - 1, col));
-            }
-            None
-        }
+        },
+        2 => if 0 < col { Some((row, col - 1)) } else { None },
+        _ => if 0 < row { Some((row - 1, col)) } else { None },
     }
 }
