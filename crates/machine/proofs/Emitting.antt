@@ -10,8 +10,7 @@ use Rattle.stack.specs.Stack.{stack_of, Lies, Does}
 use Rattle.stack.specs.Instr as Instr
 use Rattle.stack.proofs.Cells.{apart, apart', one}
 use Rattle.machine.specs.Output.{Emit, outs_of, Holds, Writes, of_top, Keeps, Refuses, Puts}
-use Rattle.machine.specs.declared.output.Wrote.{Wrote}
-use Rattle.machine.specs.declared.output.Wrote.TheVariants.{Kept, NoRoom}
+use Rattle.std.specs.Prelude.{Option, Some, None}
 
 -- a store at or past the count is not seen
 outs_set : (kinds : List ℕ) (values : List ℤ) (m n k : ℕ) (v : ℤ) → m ≤ n
@@ -78,13 +77,13 @@ nothing h = record { holds = h; is = sym (append-nil _) }
 
 -- one instruction's promise from another's that emits the same of this top
 pub same_top : (f g : ℤ → List Emit) (stack : List ℤ) (d : ℕ) (kinds : List ℕ) (values : List ℤ) (n : ℕ)
-    (stack' : List ℤ) (kinds' : List ℕ) (values' : List ℤ) (r : Wrote)
+    (stack' : List ℤ) (kinds' : List ℕ) (values' : List ℤ) (r : Option (ℕ × ℕ))
     → of_top f (stack_of stack d) ≡ of_top g (stack_of stack d) → Puts g stack d kinds values n stack' kinds' values' r
     → Puts f stack d kinds values n stack' kinds' values' r
 unfolding Puts
-same_top f g stack d kinds values n stack' kinds' values' (Kept d' n') e p =
+same_top f g stack d kinds values n stack' kinds' values' (Some (d', n')) e p =
     record { lies = p.lies; pops = p.pops; writes = rw e p.writes }
-same_top f g stack d kinds values n stack' kinds' values' NoRoom e p = record {
+same_top f g stack d kinds values n stack' kinds' values' None e p = record {
   same_stack = p.same_stack;
   same_kinds = p.same_kinds;
   same_values = p.same_values;

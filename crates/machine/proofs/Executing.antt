@@ -21,11 +21,10 @@ use Rattle.stack.specs.Stack.{stack_of, Does, Grows}
 use Rattle.stack.specs.Instr as Instr
 use Rattle.stack.proofs.Cells.{stack_of_length, one, pop_le}
 use Rattle.machine.specs.declared.Core.{Core}
-use Rattle.machine.specs.declared.Done.{Done}
-use Rattle.machine.specs.declared.Done.TheVariants.{Kept, Stops}
+use Rattle.std.specs.Prelude.{Result, Ok, Err}
+use Rattle.machine.specs.declared.Stop.{Stop}
 use Rattle.machine.specs.declared.Stop.TheVariants.{BadInput}
-use Rattle.machine.specs.declared.output.Wrote.{Wrote}
-use Rattle.machine.specs.declared.output.Wrote.TheVariants as Write
+use Rattle.std.specs.Prelude.{Option, Some, None}
 use Rattle.machine.specs.Output.{Emit, outs_of, of_top, Puts}
 use Rattle.machine.specs.Counts.{counted}
 use Rattle.machine.specs.Machine.{Given, RunRoom, Store, Effect, does, keeps, with_stack, with_pointers, with_outs, with_used, on_stack, by_top, turn, write, take, take_number, read, fitting}
@@ -49,7 +48,7 @@ module _ (stack : List ℤ) (kinds : List ℕ) (values : List ℤ) (at : Core) w
       → Stands (slices stack' kinds' values') at' → length stack' ≡ length stack → length kinds' ≡ length kinds
       → length values' ≡ length values
       → e (store_of (slices stack kinds values) at) ≡ does (store_of (slices stack' kinds' values') at')
-      → Execs e (slices stack kinds values) at (slices stack' kinds' values') (Kept at')
+      → Execs e (slices stack kinds values) at (slices stack' kinds' values') (Ok at')
   unfolding out_of After
   kept e stack' kinds' values' at' s p q r h = record {
     is =
@@ -64,12 +63,12 @@ module _ (stack : List ℤ) (kinds : List ℕ) (values : List ℤ) (at : Core) w
   module _ (s : Stands (slices stack kinds values) at) where
     pub unmoved : (e : Store → Effect)
         → e (store_of (slices stack kinds values) at) ≡ does (store_of (slices stack kinds values) at)
-        → Execs e (slices stack kinds values) at (slices stack kinds values) (Kept at)
+        → Execs e (slices stack kinds values) at (slices stack kinds values) (Ok at)
     unmoved e h = kept e stack kinds values at s refl refl refl h
 
     pub stack_kept : (f : List ℤ → List ℤ) (stack' : List ℤ) (d' : ℕ) → Does f stack at.depth stack' d'
         → length stack' ≡ length stack
-        → Execs (on_stack f) (slices stack kinds values) at (slices stack' kinds values) (Kept (at_depth d' at))
+        → Execs (on_stack f) (slices stack kinds values) at (slices stack' kinds values) (Ok (at_depth d' at))
     stack_kept f stack' d' q n =
         kept (on_stack f) stack' kinds values (at_depth d' at)
         (record { lies = q.lies; holds = s.holds; valid = s.valid }) n refl refl
@@ -89,7 +88,7 @@ module _ (stack : List ℤ) (kinds : List ℕ) (values : List ℤ) (at : Core) w
     pub turned : (f : PointerState → ℤ → PointerState) → ((p : PointerState) (z : ℤ) → Valid p → Valid (f p z))
         → (stack' : List ℤ) (d' : ℕ) (p' : PointerState) → Does Instr.pop stack at.depth stack' d'
         → length stack' ≡ length stack → 0 < at.depth → p' ≡ f at.pointers (get_or stack (at.depth - 1) (pos 0))
-        → Execs (turn f) (slices stack kinds values) at (slices stack' kinds values) (Kept (at_pointers p' (at_depth d' at)))
+        → Execs (turn f) (slices stack kinds values) at (slices stack' kinds values) (Ok (at_pointers p' (at_depth d' at)))
     unfolding turn
     turned f stays stack' d' p' q n some e =
         kept (turn f) stack' kinds values (at_pointers p' (at_depth d' at))
@@ -98,7 +97,7 @@ module _ (stack : List ℤ) (kinds : List ℕ) (values : List ℤ) (at : Core) w
         (sym q.is) (sym (e ∙ by-top f at.pointers stack at.depth some)))
 
     pub unturned : (f : PointerState → ℤ → PointerState) → at.depth ≡ 0
-        → Execs (turn f) (slices stack kinds values) at (slices stack kinds values) (Kept at)
+        → Execs (turn f) (slices stack kinds values) at (slices stack kinds values) (Ok at)
     unfolding by_top Instr.pop stack_of turn
     unturned f h = unmoved (turn f) (go (stack_of stack at.depth) (ap (stack_of stack) h))
       where
@@ -108,17 +107,17 @@ module _ (stack : List ℤ) (kinds : List ℕ) (values : List ℤ) (at : Core) w
         go t e = rw e refl
 
     -- what the top gives is emitted
-    pub wrote : (f : ℤ → List Emit) (stack' : List ℤ) (kinds' : List ℕ) (values' : List ℤ) (w : Wrote)
+    pub wrote : (f : ℤ → List Emit) (stack' : List ℤ) (kinds' : List ℕ) (values' : List ℤ) (w : Option (ℕ × ℕ))
         → Puts f stack at.depth kinds values at.outputs stack' kinds' values' w → length stack' ≡ length stack
         → length kinds' ≡ length kinds → length values' ≡ length values
         → Execs (write f) (slices stack kinds values) at (slices stack' kinds' values') (wrote_of at w)
     unfolding Puts write wrote_of fitting out_of After
-    wrote f stack' kinds' values' (Write.Kept d' n') q i j k =
+    wrote f stack' kinds' values' (Some (d', n')) q i j k =
         kept (write f) stack' kinds' values' (at_outputs n' (at_depth d' at))
         (record { lies = q.lies; holds = q.writes.holds; valid = s.valid }) i j k
         (ap₂ (λ (t : List ℤ) (o : List Emit). does (with_stack t (with_outs o (store_of (slices stack kinds values) at))))
         (sym q.pops) (sym q.writes.is))
-    wrote f stack' kinds' values' Write.NoRoom q i j k = record {
+    wrote f stack' kinds' values' None q i j k = record {
       is =
           rw (
             le-ltb (length stack) (length (Instr.pop (stack_of stack at.depth)))
@@ -144,25 +143,25 @@ module _ (stack : List ℤ) (kinds : List ℕ) (values : List ℤ) (at : Core) w
       leaves = ap (λ (t : List ℤ). slices t kinds values) q.same;
     }
 
-    pub skipped : (n : ℕ) (why : Reason) → Execs (take (Line.Skip n why)) (slices stack kinds values) at (slices stack kinds values) (Kept (at_used n at))
+    pub skipped : (n : ℕ) (why : Reason) → Execs (take (Line.Skip n why)) (slices stack kinds values) at (slices stack kinds values) (Ok (at_used n at))
     unfolding take
     skipped n why =
         kept (take (Line.Skip n why)) stack kinds values (at_used n at) (record { lies = s.lies; holds = s.holds; valid = s.valid })
         refl refl refl refl
 
-    pub bad : Execs (take Line.BadInput) (slices stack kinds values) at (slices stack kinds values) (Stops BadInput)
+    pub bad : Execs (take Line.BadInput) (slices stack kinds values) at (slices stack kinds values) (Err BadInput)
     unfolding fitting out_of take After
     bad = record { is = refl; leaves = refl }
 
     pub waits : (f : List ℕ → Number) (next : Next) (takes : Taken → Store → Effect) (g : Given) → g.terms.abstract_mode ≡ true
-        → Execs (read g f next takes) (slices stack kinds values) at (slices stack kinds values) (Kept (at_wait at))
+        → Execs (read g f next takes) (slices stack kinds values) at (slices stack kinds values) (Ok (at_wait at))
     unfolding read
     waits f next takes g e =
         kept (read g f next takes) stack kinds values (at_wait at) (record { lies = s.lies; holds = s.holds; valid = s.valid })
         refl refl refl (rw e refl)
 
 -- what the text gives is what is taken
-pub reads : (f : List ℕ → Number) (next : Next) (takes : Taken → Store → Effect) (g : Given) (t : Taken) (stack stack' : List ℤ) (at : Core) (r : Done)
+pub reads : (f : List ℕ → Number) (next : Next) (takes : Taken → Store → Effect) (g : Given) (t : Taken) (stack stack' : List ℤ) (at : Core) (r : Result Core Stop)
     → g.terms.abstract_mode ≡ false → t ≡ take_of f next g.input at.reading.used → StackExecs (takes t) stack at stack' r
     → StackExecs (read g f next takes) stack at stack' r
 unfolding read
@@ -177,7 +176,7 @@ reads f next takes g t stack stack' at r unmet e x kinds values h =
     }
 
 -- a number line is taken from where its reason is counted already
-pub takes_number : (t : Taken) (stack stack' : List ℤ) (at : Core) (r : Done)
+pub takes_number : (t : Taken) (stack stack' : List ℤ) (at : Core) (r : Result Core Stop)
     → StackExecs (take t) stack (at_skips (counted t at.reading.skips) at) stack' r → StackExecs (take_number t) stack at stack' r
 takes_number t stack stack' at r x kinds values h =
     let y = x kinds values h in

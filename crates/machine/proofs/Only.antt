@@ -3,7 +3,7 @@
 --     int_out, char_out        puts_only
 --     op_numbered, at_pointers    `equation_only` of base's proofs/Only.antt
 -- A call leaves the length of a lent slice as it is. Assumes nothing.
-use mathlib.Core.Path.{◌≡◌, ◌∙◌, sym, ap, ap₂, refl}
+use mathlib.Core.Path.{◌≡◌, ◌∙◌, sym, ap, refl}
 use mathlib.Core.List.{List, [], ◌∷◌, ◌++◌}
 use Prim.Native.Nat.{ℕ}
 use native.Mathlib.Omega.{arith}
@@ -12,12 +12,11 @@ use lib.IntN.{ℤ}
 use Rattle.stack.specs.Stack.{stack_of}
 use Rattle.stack.proofs.Unique.{unique}
 use Rattle.machine.specs.declared.Core.{Core}
-use Rattle.machine.specs.declared.Done.{Done}
-use Rattle.machine.specs.declared.Done.TheVariants.{Kept, Stops}
+use Rattle.std.specs.Prelude.{Result, Ok, Err}
+use Rattle.machine.specs.declared.Stop.{Stop}
 use Rattle.machine.specs.declared.Stop.{Stop}
 use Rattle.machine.specs.declared.Stop.TheVariants.{Completed, MaxSteps, NeedsInput, StackFull, OutputFull, BadInput}
-use Rattle.machine.specs.declared.output.Wrote.{Wrote}
-use Rattle.machine.specs.declared.output.Wrote.TheVariants as Write
+use Rattle.std.specs.Prelude.{Option, Some, None}
 use Rattle.machine.specs.Output.{Emit, outs_of, of_top, Keeps, Refuses, Puts}
 use Rattle.machine.specs.Machine.{Store, Effect, keeps, status_of}
 use Rattle.machine.specs.Held.{Slices, slices, store_of, Stands, out_of, After, Execs}
@@ -51,17 +50,17 @@ module _ (e : Store → Effect) (l : Slices) (at : Core) (l' l'' : Slices) (n : 
   as_long : AsLong l' l''
   as_long = record { stack = n.stack ∙ sym m.stack; kinds = n.kinds ∙ sym m.kinds; values = n.values ∙ sym m.values }
 
-  settled : (r r' : Done) → out_of l' r ≡ out_of l'' r' → After l l' r → After l l'' r' → (r ≡ r') × (l' ≡ l'')
+  settled : (r r' : Result Core Stop) → out_of l' r ≡ out_of l'' r' → After l l' r → After l l'' r' → (r ≡ r') × (l' ≡ l'')
   unfolding out_of After
-  settled (Kept a) (Kept b) q s t = let h = same_held l' l'' a b as_long s t (kept q) in (ap Kept h.0, h.1)
+  settled (Ok a) (Ok b) q s t = let h = same_held l' l'' a b as_long s t (kept q) in (ap Ok h.0, h.1)
     where
       kept : {x y : Store} → keeps x ≡ keeps y → x ≡ y
       kept q = cc
-  settled (Kept a) (Stops s) q x y = let z : ◌≡◌ {A = ℕ} 0 1 = cc in absurd (omega arith)
-  settled (Stops s) (Kept a) q x y = let z : ◌≡◌ {A = ℕ} 0 1 = cc in absurd (omega arith)
-  settled (Stops s) (Stops t) q x y = (cc, x ∙ sym y)
+  settled (Ok a) (Err s) q x y = let z : ◌≡◌ {A = ℕ} 0 1 = cc in absurd (omega arith)
+  settled (Err s) (Ok a) q x y = let z : ◌≡◌ {A = ℕ} 0 1 = cc in absurd (omega arith)
+  settled (Err s) (Err t) q x y = (cc, x ∙ sym y)
 
-  pub execs_only : (r r' : Done) → Execs e l at l' r → Execs e l at l'' r' → (r ≡ r') × (l' ≡ l'')
+  pub execs_only : (r r' : Result Core Stop) → Execs e l at l' r → Execs e l at l'' r' → (r ≡ r') × (l' ≡ l'')
   execs_only r r' p q = settled r r' (p.is ∙ sym q.is) p.leaves q.leaves
 
 module _ (f : ℤ → List Emit) (l : Slices) (d n : ℕ) (l' l'' : Slices) (long : AsLong l' l) (long' : AsLong l'' l) where
@@ -74,18 +73,18 @@ module _ (f : ℤ → List Emit) (l : Slices) (d n : ℕ) (l' l'' : Slices) (lon
       let e : length (outs_of l.kinds l.values n ++ of_top f (stack_of l.stack d)) ≡ n' = sym (ap length w.is) ∙ outs_length k.kinds k.values n' in
       omega (arith, w.holds.kinds_room, w.holds.values_room, a.kinds, a.values, q.full)
 
-  pub puts_only : (r r' : Wrote) → Puts f l.stack d l.kinds l.values n l'.stack l'.kinds l'.values r
+  pub puts_only : (r r' : Option (ℕ × ℕ)) → Puts f l.stack d l.kinds l.values n l'.stack l'.kinds l'.values r
       → Puts f l.stack d l.kinds l.values n l''.stack l''.kinds l''.values r' → (r ≡ r') × (l' ≡ l'')
   unfolding Puts
-  puts_only (Write.Kept a b) (Write.Kept a' b') p q =
+  puts_only (Some (a, b)) (Some (a', b')) p q =
       let u = unique l'.stack l''.stack a a' p.lies q.lies (long.stack ∙ sym long'.stack) (p.pops ∙ sym q.pops) in
       let o =
       unique_outs l'.kinds l''.kinds l'.values l''.values b b' p.writes.holds q.writes.holds (p.writes.is ∙ sym q.writes.is)
       (long.kinds ∙ sym long'.kinds) (long.values ∙ sym long'.values) in
-      (ap₂ Write.Kept u.0 o.0, λ i. slices (u.1 i) (o.1 i) (o.2 i))
-  puts_only (Write.Kept a b) Write.NoRoom p q = absurd (fits l' a b long p l'' q)
-  puts_only Write.NoRoom (Write.Kept a b) p q = absurd (fits l'' a b long' q l' p)
-  puts_only Write.NoRoom Write.NoRoom p q = (
+      (λ i. Some (u.0 i, o.0 i), λ i. slices (u.1 i) (o.1 i) (o.2 i))
+  puts_only (Some (a, b)) None p q = absurd (fits l' a b long p l'' q)
+  puts_only None (Some (a, b)) p q = absurd (fits l'' a b long' q l' p)
+  puts_only None None p q = (
     refl,
     λ i. slices ((p.same_stack ∙ sym q.same_stack) i) ((p.same_kinds ∙ sym q.same_kinds) i) ((p.same_values ∙ sym q.same_values) i),
   )

@@ -1,5 +1,5 @@
 -- What the code holds of a store: numbers in a `Core`, the stack and the outputs in three lent slices. Assumes nothing.
-use Rattle.std.specs.Prelude.{◌≡◌, List, ℕ, min, length, ℤ}
+use Rattle.std.specs.Prelude.{◌≡◌, List, ℕ, min, length, ℤ, Option, Some, None, Result, Ok, Err}
 use Rattle.flow.specs.declared.PointerState.{PointerState}
 use Rattle.flow.specs.Pointer.{Valid}
 use Rattle.stack.specs.declared.Grown.{Grown}
@@ -8,11 +8,8 @@ use Rattle.stack.specs.Stack.{stack_of, Lies}
 use Rattle.machine.specs.declared.Core.{Core}
 use Rattle.machine.specs.declared.Reading.{Reading}
 use Rattle.machine.specs.declared.Skips.{Skips}
-use Rattle.machine.specs.declared.Done.{Done}
-use Rattle.machine.specs.declared.Done.TheVariants.{Kept, Stops}
+use Rattle.machine.specs.declared.Stop.{Stop}
 use Rattle.machine.specs.declared.Stop.TheVariants.{StackFull, OutputFull}
-use Rattle.machine.specs.declared.output.Wrote.{Wrote}
-use Rattle.machine.specs.declared.output.Wrote.TheVariants as Write
 use Rattle.machine.specs.Output.{outs_of, Holds}
 use Rattle.machine.specs.Machine.{RunRoom, used_to, waits_for, skips_to, Store, Effect, Out, keeps, stops, fitting}
 
@@ -45,22 +42,22 @@ pub record Stands (l : Slices) (at : Core) : Type 0 where
   pub valid : Valid at.pointers
 
 -- what an answer with the slices after it says
-unfoldable pub out_of : Slices → Done → Out
-out_of l (Kept at) = keeps (store_of l at)
-out_of l (Stops s) = stops s
+unfoldable pub out_of : Slices → Result Core Stop → Out
+out_of l (Ok at) = keeps (store_of l at)
+out_of l (Err s) = stops s
 
 -- a step that can't be kept leaves everything as it was (rule 11.8)
-unfoldable pub After : Slices → Slices → Done → Type 0
-After l l' (Kept at) = Stands l' at
-After l l' (Stops s) = l' ≡ l
+unfoldable pub After : Slices → Slices → Result Core Stop → Type 0
+After l l' (Ok at) = Stands l' at
+After l l' (Err s) = l' ≡ l
 
 -- the slices and the answer after e is done to what is held
-pub record Execs (e : Store → Effect) (l : Slices) (at : Core) (l' : Slices) (r : Done) : Type 0 where
+pub record Execs (e : Store → Effect) (l : Slices) (at : Core) (l' : Slices) (r : Result Core Stop) : Type 0 where
   pub is : out_of l' r ≡ fitting (room_of l) (e (store_of l at))
   pub leaves : After l l' r
 
 -- the same of a function that sees the stack alone, whatever the outputs are
-abbrev pub StackExecs : (Store → Effect) → List ℤ → Core → List ℤ → Done → Type 0
+abbrev pub StackExecs : (Store → Effect) → List ℤ → Core → List ℤ → Result Core Stop → Type 0
 StackExecs e stack at stack' r =
     (kinds : List ℕ) (values : List ℤ) → Holds kinds values at.outputs
     → Execs e (slices stack kinds values) at (slices stack' kinds values) r
@@ -87,10 +84,10 @@ abbrev pub at_skips : Skips → Core → Core
 at_skips s at = at_reading (skips_to s at.reading) at
 
 -- the answer of an instruction that may need a cell more, and of one that may emit
-unfoldable pub grown_of : Core → Grown → Done
-grown_of at (Grow.To d) = Kept (at_depth d at)
-grown_of at Grow.Full = Stops StackFull
+unfoldable pub grown_of : Core → Grown → Result Core Stop
+grown_of at (Grow.To d) = Ok (at_depth d at)
+grown_of at Grow.Full = Err StackFull
 
-unfoldable pub wrote_of : Core → Wrote → Done
-wrote_of at (Write.Kept d n) = Kept (at_outputs n (at_depth d at))
-wrote_of at Write.NoRoom = Stops OutputFull
+unfoldable pub wrote_of : Core → Option (ℕ × ℕ) → Result Core Stop
+wrote_of at (Some (d, n)) = Ok (at_outputs n (at_depth d at))
+wrote_of at None = Err OutputFull

@@ -5,8 +5,7 @@ use Rattle.word.specs.Word.{residue}
 use Rattle.text.specs.Utf8.{scalar}
 use Rattle.stack.specs.Stack.{stack_of, Lies}
 use Rattle.stack.specs.Instr as Instr
-use Rattle.machine.specs.declared.output.Wrote.{Wrote}
-use Rattle.machine.specs.declared.output.Wrote.TheVariants.{Kept, NoRoom}
+use Rattle.std.specs.Prelude.{Option, Some, None}
 
 pub record Emit : Type 0 where
   pub kind : ℕ
@@ -59,6 +58,6 @@ module _ (f : ℤ → List Emit) (stack : List ℤ) (d : ℕ) (kinds : List ℕ)
     pub same_values : values' ≡ values
     pub full : min (length kinds) (length values) < length (outs_of kinds values n ++ of_top f (stack_of stack d))
 
-  unfoldable pub Puts : List ℤ → List ℕ → List ℤ → Wrote → Type 0
-  Puts stack' kinds' values' (Kept d' n') = Keeps stack' kinds' values' d' n'
-  Puts stack' kinds' values' NoRoom = Refuses stack' kinds' values'
+  unfoldable pub Puts : List ℤ → List ℕ → List ℤ → Option (ℕ × ℕ) → Type 0
+  Puts stack' kinds' values' (Some (d', n')) = Keeps stack' kinds' values' d' n'
+  Puts stack' kinds' values' None = Refuses stack' kinds' values'

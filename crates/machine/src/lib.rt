@@ -9,9 +9,8 @@ ghost use Rattle.text.specs.Input.{char_of, int_of, whole_line, char_next};
 ghost use Rattle.stack.specs.Stack.{Lies};
 ghost use Rattle.machine.specs.Counts.{Countable, one_more, counted};
 ghost use Rattle.machine.specs.Machine.{given, JudgedIn, exec, take, take_number, turn, read, op_numbered, status_of};
-ghost use Rattle.machine.specs.Held.{slices, Stands, Execs, StackExecs, at_depth, at_outputs, at_used, at_pointers, at_wait, at_skips, grown_of, wrote_of};
+ghost use Rattle.machine.specs.Held.{slices, Stands, Execs, StackExecs, at_used, at_pointers, at_wait, at_skips, grown_of, wrote_of};
 
-use crate::output::Wrote;
 use base::edition::Edition;
 use flow::PointerState;
 use stack::{Grown, Pairing};
@@ -82,13 +81,6 @@ pub struct Core {
     pub reading: Reading,
 }
 
-// What an instruction leaves, or why it can't be kept.
-#[derive(Clone, Copy)]
-pub enum Done {
-    Kept(Core),
-    Stops(Stop),
-}
-
 impl Skips {
     fn one_more(mut self, why: Reason) -> Skips
         requires { Countable self }
@@ -124,50 +116,51 @@ impl Skips {
     }
 }
 
-// One field set, so that an instruction names only what it changes.
 impl Core {
-    fn at_depth(mut self, depth: usize) -> Core
-        ensures { result ≡ at_depth depth self }
-    {
-        self.depth = depth;
-        self
-    }
-
-    fn at_outputs(mut self, outputs: usize) -> Core
-        ensures { result ≡ at_outputs outputs self }
-    {
-        self.outputs = outputs;
-        self
-    }
-
-    fn at_used(mut self, used: usize) -> Core
-        ensures { result ≡ at_used used self }
-    {
-        self.reading.used = used;
-        self
-    }
-
-    pub fn at_pointers(mut self, pointers: PointerState) -> Core
+    // The same with other pointers.
+    pub fn at_pointers(self, pointers: PointerState) -> Core
         ensures { result ≡ at_pointers pointers self }
     {
-        self.pointers = pointers;
-        self
+        Core { pointers, ..self }
     }
 
-    fn at_wait(mut self) -> Core
+    // The same with so many bytes of the input used.
+    fn at_used(self, used: usize) -> Core
+        ensures { result ≡ at_used used self }
+    {
+        Core {
+            reading: Reading {
+                used,
+                ..self.reading
+            },
+            ..self
+        }
+    }
+
+    // The same with input awaited.
+    fn at_wait(self) -> Core
         ensures { result ≡ at_wait self }
     {
-        self.reading.awaiting = true;
-        self
+        Core {
+            reading: Reading {
+                awaiting: true,
+                ..self.reading
+            },
+            ..self
+        }
     }
 
-    fn at_skips(mut self, skips: Skips) -> Core
+    // The same with so many number lines skipped.
+    fn at_skips(self, skips: Skips) -> Core
         ensures { result ≡ at_skips skips self }
     {
-        let mut reading = self.reading;
-        reading.skips = skips;
-        self.reading = reading;
-        self
+        Core {
+            reading: Reading {
+                skips,
+                ..self.reading
+            },
+            ..self
+        }
     }
 }
 
@@ -212,60 +205,72 @@ pub fn op_numbered(n: u32) -> Op
 }
 
 // The answer of an instruction that may need a cell more.
-fn after_growth(at: Core, grown: Grown) -> Done
+fn after_growth(at: Core, grown: Grown) -> Result<Core, Stop>
     ensures { result ≡ grown_of at grown }
 {
     match grown {
-        Grown::To(depth) => Done::Kept(at.at_depth(depth)),
-        Grown::Full => Done::Stops(Stop::StackFull),
+        Grown::To(depth) => Ok(Core { depth, ..at }),
+        Grown::Full => Err(Stop::StackFull),
     }
 }
 
 // The answer of an instruction that may emit.
-fn after_output(at: Core, wrote: Wrote) -> Done
+fn after_output(at: Core, wrote: Option<(usize, usize)>) -> Result<Core, Stop>
     ensures { result ≡ wrote_of at wrote }
 {
     match wrote {
-        Wrote::Kept(depth, outputs) => Done::Kept(at.at_depth(depth).at_outputs(outputs)),
-        Wrote::NoRoom => Done::Stops(Stop::OutputFull),
+        Some((depth, outputs)) => Ok(Core {
+            depth,
+            outputs,
+            ..at
+        }),
+        None => Err(Stop::OutputFull),
     }
 }
 
 // Ptr: dp turned by the top, which is gone.
-fn turn_pointer(stack: &mut [i64], at: Core) -> Done
+fn turn_pointer(stack: &mut [i64], at: Core) -> Result<Core, Stop>
     requires lies { Lies stack.old at.depth }
     requires valid { Valid at.pointers }
     ensures { StackExecs (turn rotated) stack.old at stack.new result }
 {
     let depth = at.depth;
     if depth == 0 {
-        return Done::Kept(at);
+        return Ok(at);
     }
     let n = stack[depth - 1];
     let d = stack::pop(stack, depth);
     let p = at.pointers;
-    Done::Kept(at.at_depth(d).at_pointers(p.rotate(n)))
+    Ok(Core {
+        depth: d,
+        pointers: p.rotate(n),
+        ..at
+    })
 }
 
 // Swi: cc flipped by the top, which is gone.
-fn flip_chooser(stack: &mut [i64], at: Core) -> Done
+fn flip_chooser(stack: &mut [i64], at: Core) -> Result<Core, Stop>
     requires lies { Lies stack.old at.depth }
     requires valid { Valid at.pointers }
     ensures { StackExecs (turn switched) stack.old at stack.new result }
 {
     let depth = at.depth;
     if depth == 0 {
-        return Done::Kept(at);
+        return Ok(at);
     }
     let n = stack[depth - 1];
     let d = stack::pop(stack, depth);
     let p = at.pointers;
-    Done::Kept(at.at_depth(d).at_pointers(p.switch(n)))
+    Ok(Core {
+        depth: d,
+        pointers: p.switch(n),
+        ..at
+    })
 }
 
 // What a line gives: a value to push, a skipped step, or bytes that are not UTF-8. These come first: BadInput is
 // answered before StackFull.
-fn take(stack: &mut [i64], at: Core, taken: Taken) -> Done
+fn take(stack: &mut [i64], at: Core, taken: Taken) -> Result<Core, Stop>
     requires lies { Lies stack.old at.depth }
     requires valid { Valid at.pointers }
     ensures { StackExecs (take taken) stack.old at stack.new result }
@@ -275,20 +280,20 @@ fn take(stack: &mut [i64], at: Core, taken: Taken) -> Done
         Taken::Push { value, next } => {
             after_growth(at.at_used(next), stack::grow(stack, depth, value))
         }
-        Taken::Skip { next, why: _ } => Done::Kept(at.at_used(next)),
-        Taken::BadInput => Done::Stops(Stop::BadInput),
+        Taken::Skip { next, why: _ } => Ok(at.at_used(next)),
+        Taken::BadInput => Err(Stop::BadInput),
     }
 }
 
 // CharIn: the first character of what is left of a line; in abstract mode nothing is read, and the run is to stop.
-fn char_in(terms: Terms, input: &[u8], stack: &mut [i64], at: Core) -> Done
+fn char_in(terms: Terms, input: &[u8], stack: &mut [i64], at: Core) -> Result<Core, Stop>
     requires lies { Lies stack.old at.depth }
     requires valid { Valid at.pointers }
     requires judged_in { JudgedIn (given terms input.now) at.reading }
     ensures { StackExecs (read (given terms input.now) char_of (char_next terms.edition) take) stack.old at stack.new result }
 {
     if terms.abstract_mode {
-        return Done::Kept(at.at_wait());
+        return Ok(at.at_wait());
     }
     let used = at.reading.used;
     let edition = terms.edition;
@@ -296,14 +301,14 @@ fn char_in(terms: Terms, input: &[u8], stack: &mut [i64], at: Core) -> Done
 }
 
 // IntIn: the number that a line is, or one skipped line more; in abstract mode nothing is read, and the run is to stop.
-fn int_in(terms: Terms, input: &[u8], stack: &mut [i64], at: Core) -> Done
+fn int_in(terms: Terms, input: &[u8], stack: &mut [i64], at: Core) -> Result<Core, Stop>
     requires lies { Lies stack.old at.depth }
     requires valid { Valid at.pointers }
     requires countable { Countable at.reading.skips }
     ensures { StackExecs (read (given terms input.now) int_of whole_line take_number) stack.old at stack.new result }
 {
     if terms.abstract_mode {
-        return Done::Kept(at.at_wait());
+        return Ok(at.at_wait());
     }
     let used = at.reading.used;
     let taken = text::input::int_in(input, used);
@@ -321,7 +326,7 @@ pub fn exec(
     kinds: &mut [u8],
     values: &mut [i64],
     at: Core,
-) -> Done
+) -> Result<Core, Stop>
     requires stands { Stands (slices stack.old kinds.old values.old) at }
     requires countable { Countable at.reading.skips }
     requires judged_in { JudgedIn (given terms input.now) at.reading }
@@ -331,15 +336,27 @@ pub fn exec(
     let n = at.outputs;
     let edition = terms.edition;
     match op {
-        Op::Nothing => Done::Kept(at),
+        Op::Nothing => Ok(at),
         Op::Push => after_growth(at, stack::grow(stack, d, size as i64)),
-        Op::Pop => Done::Kept(at.at_depth(stack::pop(stack, d))),
-        Op::Pair(pairing) => Done::Kept(at.at_depth(stack::pair(stack, d, pairing, edition))),
-        Op::Not => Done::Kept(at.at_depth(stack::not(stack, d))),
+        Op::Pop => Ok(Core {
+            depth: stack::pop(stack, d),
+            ..at
+        }),
+        Op::Pair(pairing) => Ok(Core {
+            depth: stack::pair(stack, d, pairing, edition),
+            ..at
+        }),
+        Op::Not => Ok(Core {
+            depth: stack::not(stack, d),
+            ..at
+        }),
         Op::Ptr => turn_pointer(stack, at),
         Op::Swi => flip_chooser(stack, at),
         Op::Dup => after_growth(at, stack::double(stack, d)),
-        Op::Roll => Done::Kept(at.at_depth(stack::roll(stack, d, edition))),
+        Op::Roll => Ok(Core {
+            depth: stack::roll(stack, d, edition),
+            ..at
+        }),
         Op::CharIn => char_in(terms, input, stack, at),
         Op::CharOut => after_output(at, output::char_out(stack, d, kinds, values, n)),
         Op::IntIn => int_in(terms, input, stack, at),

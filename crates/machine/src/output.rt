@@ -1,15 +1,8 @@
-// Outputs: CharOut and IntOut. Both slices are tested for room before anything is written, so that a step which cannot be
+// Outputs: CharOut and IntOut, each with the depth and the number of outputs that it leaves, or nothing where there is no room for it. Both slices are tested for room before anything is written, so that a step which cannot be
 // kept leaves every cell.
 ghost use Rattle.std.specs.Prelude.{◌∷◌, [], ◌<◌, length};
 ghost use Rattle.stack.specs.Stack.{Lies};
 ghost use Rattle.machine.specs.Output.{Holds, Writes, Puts, int_out, char_out};
-
-// What an output instruction leaves: the depth and the number of outputs, or no room for it.
-#[derive(Clone, Copy)]
-pub enum Wrote {
-    Kept(usize, usize),
-    NoRoom,
-}
 
 // One output more, where there is room.
 fn emit(kinds: &mut [u8], values: &mut [i64], n: usize, kind: u8, v: i64) -> usize
@@ -31,20 +24,20 @@ fn put_out(
     n: usize,
     kind: u8,
     v: i64,
-) -> Wrote
+) -> Option<(usize, usize)>
     requires lies { Lies stack.old depth }
     requires holds { Holds kinds.old values.old n }
     requires depth_nonzero { 0 < depth }
     ensures { Puts (λ _. record { kind = kind; value = v } ∷ []) stack.old depth kinds.old values.old n stack.new kinds.new values.new result }
 {
     if n == kinds.len() {
-        return Wrote::NoRoom;
+        return None;
     }
     if n == values.len() {
-        return Wrote::NoRoom;
+        return None;
     }
     let m = emit(kinds, values, n, kind, v);
-    Wrote::Kept(stack::pop(stack, depth), m)
+    Some((stack::pop(stack, depth), m))
 }
 
 // IntOut: the top, as a number.
@@ -54,13 +47,13 @@ pub fn int_out(
     kinds: &mut [u8],
     values: &mut [i64],
     n: usize,
-) -> Wrote
+) -> Option<(usize, usize)>
     requires lies { Lies stack.old depth }
     requires holds { Holds kinds.old values.old n }
     ensures { Puts int_out stack.old depth kinds.old values.old n stack.new kinds.new values.new result }
 {
     if depth == 0 {
-        return Wrote::Kept(depth, n);
+        return Some((depth, n));
     }
     let v = stack[depth - 1];
     put_out(stack, depth, kinds, values, n, 2, v)
@@ -73,17 +66,17 @@ pub fn char_out(
     kinds: &mut [u8],
     values: &mut [i64],
     n: usize,
-) -> Wrote
+) -> Option<(usize, usize)>
     requires lies { Lies stack.old depth }
     requires holds { Holds kinds.old values.old n }
     ensures { Puts char_out stack.old depth kinds.old values.old n stack.new kinds.new values.new result }
 {
     if depth == 0 {
-        return Wrote::Kept(depth, n);
+        return Some((depth, n));
     }
     let u = word::low32(stack[depth - 1]);
     if text::utf8::is_scalar(u) {
         return put_out(stack, depth, kinds, values, n, 1, u as i64);
     }
-    Wrote::Kept(stack::pop(stack, depth), n)
+    Some((stack::pop(stack, depth), n))
 }

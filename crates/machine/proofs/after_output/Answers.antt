@@ -1,14 +1,12 @@
 -- `machine::after_output` meets its contract. Assumes nothing.
-use mathlib.Core.Path.{refl, ap, ◌∙◌}
-use Rattle.machine.specs.Held.{at_outputs, wrote_of}
-use Rattle.machine.specs.declared.Done.TheVariants.{Kept}
+use mathlib.Core.Path.{refl}
+use Rattle.machine.specs.Held.{wrote_of}
 use Rattle.machine.proofs.after_output.Goals as goal
 
-pub returns-in-Kept : goal.returns-in-Kept
+pub returns-in-Some : goal.returns-in-Some
 unfolding wrote_of
-returns-in-Kept c =
-    rw c.in-Kept.is (ap Kept (c.at_outputs.ensures ∙ ap (at_outputs c.in-Kept.outputs) c.at_depth.ensures))
+returns-in-Some c = rw c.in-Some.is refl
 
-pub returns-in-NoRoom : goal.returns-in-NoRoom
+pub returns-in-None : goal.returns-in-None
 unfolding wrote_of
-returns-in-NoRoom c = rw c.in-NoRoom.is refl
+returns-in-None c = rw c.in-None.is refl

@@ -28,7 +28,7 @@ pub returns-in-Pop : goal.returns-in-Pop
 unfolding exec
 returns-in-Pop c =
     let q = c.pop in
-    rw (c.in-Pop.is, c.at_depth.ensures)
+    rw c.in-Pop.is
     (stack_kept c.args.stack.now c.args.kinds.now c.args.values.now c.args.at c.requires.stands
     Instr.pop q.new.stack q.result q.ensures q.auto.stack)
 
@@ -36,7 +36,7 @@ pub returns-in-Pair : goal.returns-in-Pair
 unfolding exec
 returns-in-Pair c =
     let q = c.pair in
-    rw (c.in-Pair.is, c.at_depth-in-Pair.ensures)
+    rw c.in-Pair.is
     (stack_kept c.args.stack.now c.args.kinds.now c.args.values.now c.args.at c.requires.stands
     (Instr.pair _ c.in-Pair.pairing) q.new.stack q.result q.ensures q.auto.stack)
 
@@ -44,7 +44,7 @@ pub returns-in-Not : goal.returns-in-Not
 unfolding exec
 returns-in-Not c =
     let q = c.not in
-    rw (c.in-Not.is, c.at_depth-in-Not.ensures)
+    rw c.in-Not.is
     (stack_kept c.args.stack.now c.args.kinds.now c.args.values.now c.args.at c.requires.stands
     Instr.not q.new.stack q.result q.ensures q.auto.stack)
 
@@ -70,7 +70,7 @@ pub returns-in-Roll : goal.returns-in-Roll
 unfolding exec
 returns-in-Roll c =
     let q = c.roll in
-    rw (c.in-Roll.is, c.at_depth-in-Roll.ensures)
+    rw c.in-Roll.is
     (stack_kept c.args.stack.now c.args.kinds.now c.args.values.now c.args.at c.requires.stands
     (Instr.roll _) q.new.stack q.result q.ensures q.auto.stack)
 

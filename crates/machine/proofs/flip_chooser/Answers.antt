@@ -17,7 +17,6 @@ returns c =
     λ kinds values h.
     let q = c.pop-d in
     let some = c.if-depth-eq0.false in
-    rw (c.at_pointers.ensures, c.at_depth.ensures)
     (turned c.args.stack.now kinds values c.args.at (record { lies = c.requires.lies; holds = h; valid = c.requires.valid }) switched valid_switched
     q.new.stack q.result c.switch.result q.ensures q.auto.stack (omega (arith, some))
     (rw (back _ c.n-1.given) at c.switch.ensures))
