@@ -11,7 +11,7 @@ use Rattle.flow.specs.declared.PointerState.{PointerState}
 use Rattle.flow.specs.Pointer.{Valid, of_number, state_number, attempt_of}
 use Rattle.flow.proofs.Order.{valid_number, valid_attempt}
 use Rattle.machine.specs.declared.Core.{Core}
-use Rattle.machine.specs.declared.Done.TheVariants.{Kept, Stops}
+use Rattle.std.specs.Prelude.{Ok, Err}
 use Rattle.machine.specs.declared.Stop.{Stop}
 use Rattle.machine.specs.declared.Stop.TheVariants.{NeedsInput, Completed}
 use Rattle.machine.specs.Machine.{Given, exec}
@@ -37,7 +37,7 @@ stands_in l at s h k = record { lies = h.lies; holds = h.holds; valid = valid_nu
 module _ (rows exits : List ℕ) (g : Given) (n : ℕ) (l : Slices) (at : State) where
   module _ (w : ℕ) (l' : Slices) where
     pub moved : (next : Core)
-        → Execs (exec g (size_of rows at.region) (op_of w)) l (at_pointers (pointers_of w) at.core) l' (Kept next)
+        → Execs (exec g (size_of rows at.region) (op_of w)) l (at_pointers (pointers_of w) at.core) l' (Ok next)
         → target_of w < n → total at.core.reading.skips ≤ at.steps
         → Steps (through (job_of rows exits g l) w (machine_of l at)) w n l at l'
         (To (record { region = target_of w; steps = at.steps + 1; core = next }) w)
@@ -49,7 +49,7 @@ module _ (rows exits : List ℕ) (g : Given) (n : ℕ) (l : Slices) (at : State)
         one_more = exec_total g (size_of rows at.region) (op_of w) (store_of l (at_pointers (pointers_of w) at.core)) (fit_kept (room_of l) _ (sym x.is))
 
     pub halted : (s : Stop)
-        → Execs (exec g (size_of rows at.region) (op_of w)) l (at_pointers (pointers_of w) at.core) l' (Stops s)
+        → Execs (exec g (size_of rows at.region) (op_of w)) l (at_pointers (pointers_of w) at.core) l' (Err s)
         → Steps (through (job_of rows exits g l) w (machine_of l at)) w n l at l' (Halted s)
     unfolding out_of Left arrive next_of After
     halted s x = record { is = ap (arrive w (machine_of l at)) x.is; leaves = x.leaves }

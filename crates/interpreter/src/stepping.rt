@@ -11,7 +11,7 @@ ghost use Rattle.interpreter.specs.Moving.{Gone, Stepped};
 
 use crate::State;
 use flow::PointerState;
-use machine::{Done, Stop, Terms};
+use machine::{Stop, Terms};
 use table::{Field, LOST_SLIDE, exit_cell, instruction_of, row_cell, state_of, target_of};
 
 // What a step comes to: the place that it reaches, and the exit by which it does.
@@ -75,7 +75,7 @@ fn go_through(
         values,
         core.at_pointers(p),
     ) {
-        Done::Kept(next) => Moved::To {
+        Ok(next) => Moved::To {
             next: State {
                 region: target,
                 steps: at.steps + 1,
@@ -83,7 +83,7 @@ fn go_through(
             },
             by: w,
         },
-        Done::Stops(stop) => Moved::Halted(stop),
+        Err(stop) => Moved::Halted(stop),
     }
 }
 

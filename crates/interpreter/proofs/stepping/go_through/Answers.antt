@@ -1,7 +1,9 @@
 -- `interpreter::stepping::go_through` meets its contract. What the instruction came to is what the step comes to. Assumes nothing.
 use mathlib.Core.Path.{◌≡◌, subst}
 use native.Mathlib.Omega.{arith}
-use Rattle.machine.specs.declared.Done.{Done}
+use Rattle.std.specs.Prelude.{Result}
+use Rattle.machine.specs.declared.Core.{Core}
+use Rattle.machine.specs.declared.Stop.{Stop}
 use Rattle.machine.specs.Machine.{Given, given, exec}
 use Rattle.machine.specs.Held.{Slices, slices, Execs, at_pointers}
 use Rattle.interpreter.specs.Table.{pointers_of, op_of}
@@ -18,12 +20,12 @@ exec-requires c =
       judged_in = c.requires.judged_in;
     })
 
-pub returns-in-Kept : goal.returns-in-Kept
-returns-in-Kept c =
+pub returns-in-Ok : goal.returns-in-Ok
+returns-in-Ok c =
     let what : Given = given c.args.terms c.args.input.now in
     let held : Slices = slices c.args.stack.now c.args.kinds.now c.args.values.now in
     let left : Slices = slices c.exec.new.stack c.exec.new.kinds c.exec.new.values in
-    let went : (r : Done) → c.exec.result ≡ r → Execs (exec what (size_of c.args.rows.now c.args.at.region) (op_of c.args.w)) held (at_pointers (pointers_of c.args.w) c.args.at.core) left r = λ r q. subst (Execs _ _ _ _) q
+    let went : (r : Result Core Stop) → c.exec.result ≡ r → Execs (exec what (size_of c.args.rows.now c.args.at.region) (op_of c.args.w)) held (at_pointers (pointers_of c.args.w) c.args.at.core) left r = λ r q. subst (Execs _ _ _ _) q
     (rw (
       c.op_numbered-op.ensures,
       c.at_pointers.ensures,
@@ -35,15 +37,15 @@ returns-in-Kept c =
     at c.exec.ensures) in
     λ exits.
     rw c.target_of-target.ensures
-    (moved c.args.rows.now exits what c.args.n held c.args.at c.args.w left c.in-Kept.next
-    (went _ c.in-Kept.is) c.requires.w_nonzero.1 c.requires.placed.few)
+    (moved c.args.rows.now exits what c.args.n held c.args.at c.args.w left c.in-Ok.next
+    (went _ c.in-Ok.is) c.requires.w_nonzero.1 c.requires.placed.few)
 
-pub returns-in-Stops : goal.returns-in-Stops
-returns-in-Stops c =
+pub returns-in-Err : goal.returns-in-Err
+returns-in-Err c =
     let what : Given = given c.args.terms c.args.input.now in
     let held : Slices = slices c.args.stack.now c.args.kinds.now c.args.values.now in
     let left : Slices = slices c.exec.new.stack c.exec.new.kinds c.exec.new.values in
-    let went : (r : Done) → c.exec.result ≡ r → Execs (exec what (size_of c.args.rows.now c.args.at.region) (op_of c.args.w)) held (at_pointers (pointers_of c.args.w) c.args.at.core) left r = λ r q. subst (Execs _ _ _ _) q
+    let went : (r : Result Core Stop) → c.exec.result ≡ r → Execs (exec what (size_of c.args.rows.now c.args.at.region) (op_of c.args.w)) held (at_pointers (pointers_of c.args.w) c.args.at.core) left r = λ r q. subst (Execs _ _ _ _) q
     (rw (
       c.op_numbered-op.ensures,
       c.at_pointers.ensures,
@@ -54,5 +56,5 @@ returns-in-Stops c =
     )
     at c.exec.ensures) in
     λ exits.
-    halted c.args.rows.now exits what c.args.n held c.args.at c.args.w left c.in-Stops.stop
-    (went _ c.in-Stops.is)
+    halted c.args.rows.now exits what c.args.n held c.args.at c.args.w left c.in-Err.stop
+    (went _ c.in-Err.is)
