@@ -9,7 +9,7 @@ use lib.ListN.{length, get_or}
 use lib.IntN.{ℤ, pos}
 use Rattle.flow.specs.declared.PointerState.{PointerState}
 use Rattle.flow.specs.Pointer.{Valid}
-use Rattle.text.specs.declared.number.Number.{Number}
+use Rattle.text.specs.Number.{Number}
 use Rattle.text.specs.declared.number.Reason.{Reason}
 use Rattle.text.specs.declared.input.Taken.{Taken}
 use Rattle.text.specs.declared.input.Taken.TheVariants as Line

@@ -7,7 +7,7 @@ use lib.IntN.{ℤ}
 use Rattle.flow.specs.declared.PointerState.{PointerState}
 use Rattle.flow.specs.Pointer.{Valid, rotated, switched}
 use Rattle.flow.proofs.Order.{valid_rotated, valid_switched}
-use Rattle.text.specs.declared.number.Number.{Number}
+use Rattle.text.specs.Number.{Number}
 use Rattle.text.specs.declared.input.Taken.{Taken}
 use Rattle.text.specs.declared.input.Taken.TheVariants as Line
 use Rattle.text.specs.Input.{char_of, int_of, Next, whole_line, char_next}

@@ -19,7 +19,7 @@ use Rattle.base.proofs.Clash.{clash}
 use Rattle.word.specs.Word.{wrap}
 use Rattle.word.proofs.Wrapping.{wrap_fits, wrap_range}
 use Rattle.flow.specs.declared.PointerState.{PointerState}
-use Rattle.text.specs.declared.number.Number.TheVariants.{Skipped}
+use Rattle.std.specs.Prelude.{Err}
 use Rattle.text.specs.declared.number.Reason.{Reason}
 use Rattle.text.specs.declared.number.Reason.TheVariants.{Ended, Blank, NotNumber, OutOfRange}
 use Rattle.text.specs.declared.input.Taken.{Taken}
@@ -123,7 +123,7 @@ times_append why [] vs = omega arith
 times_append why (w ∷ ws) vs = omega (arith, times_append why ws vs)
 
 pub skipped_means : (g : Given) (m : Store) (why : Reason) → skipped g IntIn m ≡ why ∷ []
-    → (cs : List ℕ) × Utf8 (line_at g.input m.reading.used) cs × Means cs (Skipped why)
+    → (cs : List ℕ) × Utf8 (line_at g.input m.reading.used) cs × Means cs (Err why)
 unfolding skipped reason_in
 skipped_means g m why = go g.terms.abstract_mode
   where
@@ -131,7 +131,7 @@ skipped_means g m why = go g.terms.abstract_mode
     line = take_of int_of whole_line g.input m.reading.used
 
     by_line : (t : Taken) → line ≡ t → reason_in t ≡ why ∷ []
-        → (cs : List ℕ) × Utf8 (line_at g.input m.reading.used) cs × Means cs (Skipped why)
+        → (cs : List ℕ) × Utf8 (line_at g.input m.reading.used) cs × Means cs (Err why)
     by_line (Line.Push v n) q e = clash cc
     by_line (Line.Skip n w) q e =
         let z : w ≡ why = cc in
@@ -139,7 +139,7 @@ skipped_means g m why = go g.terms.abstract_mode
     by_line Line.BadInput q e = clash cc
 
     go : (t : Bool) → cond t [] (reason_in line) ≡ why ∷ []
-        → (cs : List ℕ) × Utf8 (line_at g.input m.reading.used) cs × Means cs (Skipped why)
+        → (cs : List ℕ) × Utf8 (line_at g.input m.reading.used) cs × Means cs (Err why)
     go true e = clash cc
     go false e = by_line line refl e
 

@@ -3,7 +3,7 @@ use Rattle.std.specs.Prelude.{Bool, true, cond, List, [], ◌∷◌, ◌++◌, �
 use Rattle.base.specs.Edition.{edition_of}
 use Rattle.flow.specs.declared.PointerState.{PointerState}
 use Rattle.flow.specs.Pointer.{rotated, switched}
-use Rattle.text.specs.declared.number.Number.{Number}
+use Rattle.text.specs.Number.{Number}
 use Rattle.text.specs.declared.input.Taken.{Taken}
 use Rattle.text.specs.declared.input.Taken.TheVariants as Line
 use Rattle.text.specs.Input.{char_of, int_of, Next, whole_line, char_next, Judged}

@@ -20,18 +20,17 @@ use lib.Seq.{get_or-drop}
 use Rattle.text.specs.Utf8.{scalar, encode, bytes1, bytes2, bytes3, bytes4, tail_byte, IsTail, IsChar, Reads, char, bad}
 use Rattle.text.specs.LongChar.{Carries, TailAt, tail, other, FirstByte, of_two, of_three, of_four}
 use Rattle.text.specs.declared.utf8.Decoded.TheVariants.{Char, Bad}
-use Rattle.text.specs.declared.utf8.Tail.{Tail}
-use Rattle.text.specs.declared.utf8.Tail.TheVariants.{Bits, Other}
+use Rattle.std.specs.Prelude.{Option, Some, None}
 use Rattle.text.proofs.Parts.{from1}
 use Rattle.text.proofs.Utf8Laws.{scalar_bounds, bounds_scalar, Form, form, form1, form2, form3, form4, encode1, encode2, encode3, encode4}
 
 -- ---- a continuation byte, by the answer
-module _ (s : List ℕ) (i : ℕ) (r : Tail) where
-  pub carries : TailAt s i r → (x : ℕ) → r ≡ Bits x → Carries s i x
+module _ (s : List ℕ) (i : ℕ) (r : Option ℕ) where
+  pub carries : TailAt s i r → (x : ℕ) → r ≡ Some x → Carries s i x
   carries (tail y h e) x q = let p : y ≡ x = cc in subst (λ (z : ℕ). Carries s i z) p h
   carries (other f e) x q = let z : ◌≡◌ {A = ℕ} 0 1 = cc in absurd (omega arith)
 
-  pub no_tail : TailAt s i r → r ≡ Other → i < length s → IsTail (get_or s i 0) → ⊥
+  pub no_tail : TailAt s i r → r ≡ None → i < length s → IsTail (get_or s i 0) → ⊥
   no_tail (tail y h e) q = let z : ◌≡◌ {A = ℕ} 0 1 = cc in absurd (omega arith)
   no_tail (other f e) q = f
 
@@ -229,11 +228,6 @@ module _ (s : List ℕ) (at high : ℕ) where
   all_of cp m n e g = subst (λ (k : ℕ). Gathers s at high k cp) e g
 
 module _ (s : List ℕ) (at high : ℕ) {more least : ℕ} where
-  pub few_more : FirstByte (get_or s at 0) high more least → more ≤ 3
-  few_more (of_two b h m l) = omega arith
-  few_more (of_three b h m l) = omega arith
-  few_more (of_four b h m l) = omega arith
-
   pub number_small : FirstByte (get_or s at 0) high more least → (i cp : ℕ) → i < more → Gathers s at high i cp → cp < 0x20000
   number_small (of_two b h m l) i cp k g = bits_small s at high i cp (omega arith) (omega arith) g
   number_small (of_three b h m l) i cp k g = bits_small s at high i cp (omega arith) (omega arith) g

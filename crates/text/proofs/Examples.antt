@@ -16,7 +16,7 @@ use Rattle.text.specs.Input.{char_of, int_of, push_or_skip, whole_line, char_nex
 use Rattle.text.specs.Reading.{back, rest, chars, same, valid, take_of}
 use Rattle.text.specs.declared.input.Taken.{Taken}
 use Rattle.text.specs.declared.input.Taken.TheVariants.{Push, Skip, BadInput}
-use Rattle.text.specs.declared.number.Number.TheVariants.{Value, Skipped}
+use Rattle.std.specs.Prelude.{Ok, Err}
 use Rattle.text.specs.declared.number.Reason.TheVariants.{Ended, Blank, NotNumber, OutOfRange}
 
 -- é, €, 𝄞
@@ -52,42 +52,42 @@ unfolding white_space within
 none = refl
 
 -- U+3000, `-12`, a carriage return, a newline
-int : int_of (0x3000 ∷ 0x2D ∷ 0x31 ∷ 0x32 ∷ 13 ∷ 10 ∷ []) ≡ Value (negsuc 11)
+int : int_of (0x3000 ∷ 0x2D ∷ 0x31 ∷ 0x32 ∷ 13 ∷ 10 ∷ []) ≡ Ok (negsuc 11)
 unfolding encode encodes white_space within trim_start digit all_digits numeral value_after in_range ranged signed parsed int_of
 int = refl
 
 -- signs and zeros
-plus_five : parsed (ascii "+5") ≡ Value (pos 5)
+plus_five : parsed (ascii "+5") ≡ Ok (pos 5)
 unfolding digit all_digits numeral value_after in_range ranged signed parsed
 plus_five = refl
 
-minus_zero : parsed (ascii "-0") ≡ Value (pos 0)
+minus_zero : parsed (ascii "-0") ≡ Ok (pos 0)
 unfolding digit all_digits numeral value_after in_range ranged signed parsed
 minus_zero = refl
 
-zeros : parsed (ascii "007") ≡ Value (pos 7)
+zeros : parsed (ascii "007") ≡ Ok (pos 7)
 unfolding digit all_digits numeral value_after in_range ranged signed parsed
 zeros = refl
 
 -- no form of a number: a sign alone, two signs, a space after a sign, two numbers, a letter after digits that are too many
-no_form : (parsed (ascii "+") ≡ Skipped NotNumber)
-    × (parsed (ascii "--1") ≡ Skipped NotNumber)
-    × (parsed (ascii "- 5") ≡ Skipped NotNumber)
-    × (parsed (ascii "1 2") ≡ Skipped NotNumber)
-    × (parsed (ascii "9223372036854775808x") ≡ Skipped NotNumber)
+no_form : (parsed (ascii "+") ≡ Err NotNumber)
+    × (parsed (ascii "--1") ≡ Err NotNumber)
+    × (parsed (ascii "- 5") ≡ Err NotNumber)
+    × (parsed (ascii "1 2") ≡ Err NotNumber)
+    × (parsed (ascii "9223372036854775808x") ≡ Err NotNumber)
 unfolding digit all_digits numeral value_after in_range ranged signed parsed
 no_form = (refl, refl, refl, refl, refl)
 
 -- the ends of i64, leading zeros and all, and one past each
-ends : (parsed (ascii "9223372036854775807") ≡ Value (pos 9223372036854775807))
-    × (parsed (ascii "-0009223372036854775808") ≡ Value (negsuc 9223372036854775807))
-    × (parsed (ascii "9223372036854775808") ≡ Skipped OutOfRange)
-    × (parsed (ascii "-9223372036854775809") ≡ Skipped OutOfRange)
+ends : (parsed (ascii "9223372036854775807") ≡ Ok (pos 9223372036854775807))
+    × (parsed (ascii "-0009223372036854775808") ≡ Ok (negsuc 9223372036854775807))
+    × (parsed (ascii "9223372036854775808") ≡ Err OutOfRange)
+    × (parsed (ascii "-9223372036854775809") ≡ Err OutOfRange)
 unfolding digit all_digits numeral value_after in_range ranged signed parsed
 ends = (refl, refl, refl, refl)
 
 -- white space alone, U+3000 too, is a blank line; no line at all is the end of the input
-nothing : (int_of (0x20 ∷ 0x3000 ∷ 13 ∷ 10 ∷ []) ≡ Skipped Blank) × (int_of [] ≡ Skipped Ended)
+nothing : (int_of (0x20 ∷ 0x3000 ∷ 13 ∷ 10 ∷ []) ≡ Err Blank) × (int_of [] ≡ Err Ended)
 unfolding encodes white_space within trim_start parsed int_of
 nothing = (refl, refl)
 

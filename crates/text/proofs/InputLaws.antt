@@ -20,8 +20,8 @@ use Rattle.text.specs.Utf8.{encode, encodes, Utf8, Valid, IsChar}
 use Rattle.text.specs.Trim.{Trims}
 use Rattle.text.specs.Number.{parsed}
 use Rattle.text.specs.Input.{char_of, remains, int_of, push_or_skip, Next, whole_line, after_char, char_next, Takes, reads, bad}
-use Rattle.text.specs.declared.number.Number.{Number}
-use Rattle.text.specs.declared.number.Number.TheVariants.{Value, Skipped}
+use Rattle.text.specs.Number.{Number}
+use Rattle.std.specs.Prelude.{Ok, Err}
 use Rattle.text.specs.declared.number.Reason.{Reason}
 use Rattle.text.specs.declared.number.Reason.TheVariants.{Ended}
 use Rattle.text.specs.declared.input.Taken.TheVariants.{Push, Skip, BadInput}
@@ -35,7 +35,7 @@ agreed Page x y n h k = k
 
 -- ---- the end of the input, of which nothing is left
 module _ (s : List ℕ) (at : ℕ) (h : length s ≤ at) where
-  pub take_none : (f : List ℕ → Number) (next : Next) → f [] ≡ Skipped Ended → next s at [] ≡ at → Takes f next s at (Skip at Ended)
+  pub take_none : (f : List ℕ → Number) (next : Next) → f [] ≡ Err Ended → next s at [] ≡ at → Takes f next s at (Skip at Ended)
   unfolding push_or_skip
   take_none f next e stays = reads [] (utf8_none (line_at s at) (rw (line_none s at h))) (rw (e, stays))
 
@@ -55,11 +55,11 @@ module _ (f : List ℕ → Number) (next : Next) (s : List ℕ) (at e : ℕ) (is
     line_utf8 : Utf8 (line_at s at) cs
     line_utf8 = subst (λ (l : List ℕ). Utf8 l cs) (line_part s at e is) u
 
-    pub take_skip : (n : ℕ) (why : Reason) → f cs ≡ Skipped why → n ≡ next s at cs → Takes f next s at (Skip n why)
+    pub take_skip : (n : ℕ) (why : Reason) → f cs ≡ Err why → n ≡ next s at cs → Takes f next s at (Skip n why)
     unfolding push_or_skip
     take_skip n why q g = reads cs line_utf8 (rw (q, ← g))
 
-    pub take_push : (n : ℕ) (v : ℤ) → f cs ≡ Value v → n ≡ next s at cs → Takes f next s at (Push v n)
+    pub take_push : (n : ℕ) (v : ℤ) → f cs ≡ Ok v → n ≡ next s at cs → Takes f next s at (Push v n)
     unfolding push_or_skip
     take_push n v q g = reads cs line_utf8 (rw (q, ← g))
 
@@ -80,7 +80,7 @@ module _ (l cs : List ℕ) (u : Utf8 l cs) where
   int-of h t p r q = int_some cs (some_char l cs u h) ∙ ap parsed (sym (p.text cs u).same) ∙ sym q
 
   module _ (c n : ℕ) (k : IsChar l 0 c n) where
-    pub char_of_lem : char_of cs ≡ Value (pos c)
+    pub char_of_lem : char_of cs ≡ Ok (pos c)
     unfolding char_of
     char_of_lem = ap char_of (head_is c l (drop n l) k.bytes cs u).1
 

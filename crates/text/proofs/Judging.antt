@@ -23,8 +23,8 @@ use Rattle.text.specs.Line.{line_length, line_at, line_end}
 use Rattle.text.specs.Utf8.{encode, encodes, Utf8, Valid, IsChar}
 use Rattle.text.specs.Input.{char_of, int_of, push_or_skip, Next, whole_line, char_next, Takes, reads, bad, within_line, Judged}
 use Rattle.text.specs.Reading.{take_of}
-use Rattle.text.specs.declared.number.Number.{Number}
-use Rattle.text.specs.declared.number.Number.TheVariants.{Value, Skipped}
+use Rattle.text.specs.Number.{Number}
+use Rattle.std.specs.Prelude.{Ok, Err}
 use Rattle.text.specs.declared.input.Taken.{Taken}
 use Rattle.text.specs.declared.input.Taken.TheVariants.{Push, Skip, BadInput}
 use Rattle.text.proofs.Utf8Laws.{scalars_both, utf8_none, prefix_char}
@@ -134,8 +134,8 @@ module _ (e : Edition) (s : List ℕ) (at : ℕ) (j : Judged e s at) where
 
   either : (x : Number) (n : ℕ) → Judged e s n → LeavesOff e s at (push_or_skip x n)
   unfolding push_or_skip
-  either (Value v) n k = k
-  either (Skipped why) n k = k
+  either (Ok v) n k = k
+  either (Err why) n k = k
 
   leaves_off : (f : List ℕ → Number) (next : Next) → ((cs : List ℕ) → Utf8 (line_at s at) cs → Judged e s (next s at cs)) → (r : Taken)
       → Takes f next s at r → LeavesOff e s at r

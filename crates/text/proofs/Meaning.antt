@@ -26,8 +26,8 @@ use Rattle.text.specs.Number.{in_range, ranged, signed, opposite, parsed}
 use Rattle.text.specs.Input.{remains, int_of, push_or_skip, whole_line, Takes, reads, bad}
 use Rattle.text.specs.Reading.{take_of}
 use Rattle.text.specs.Means.{Says, bare, plus, minus, Means}
-use Rattle.text.specs.declared.number.Number.{Number}
-use Rattle.text.specs.declared.number.Number.TheVariants.{Value, Skipped}
+use Rattle.text.specs.Number.{Number}
+use Rattle.std.specs.Prelude.{Ok, Err}
 use Rattle.text.specs.declared.number.Reason.{Reason}
 use Rattle.text.specs.declared.number.Reason.TheVariants.{Ended, Blank, NotNumber, OutOfRange}
 use Rattle.text.specs.declared.input.Taken.TheVariants.{Skip}
@@ -109,10 +109,10 @@ says_parsed l z s =
     let p = says_is l z s in
     by_parts l (says_some l z s) ∙ in_form (sign_of l) (digits_of l) p.0 ∙ ap ranged (sym p.1)
 
-none_parsed : (l : List ℕ) → (l ≡ [] → ⊥) → ((z : ℤ) → Says l z → ⊥) → parsed l ≡ Skipped NotNumber
+none_parsed : (l : List ℕ) → (l ≡ [] → ⊥) → ((z : ℤ) → Says l z → ⊥) → parsed l ≡ Err NotNumber
 none_parsed l h f = by_parts l h ∙ go (numeral (digits_of l)) refl
   where
-    go : (t : Bool) → numeral (digits_of l) ≡ t → signed (sign_of l) (digits_of l) ≡ Skipped NotNumber
+    go : (t : Bool) → numeral (digits_of l) ≡ t → signed (sign_of l) (digits_of l) ≡ Err NotNumber
     go true e = absurd (f (number l) (says_of l e))
     go false e = no_form (sign_of l) (digits_of l) e
 
@@ -125,18 +125,18 @@ int_left (c ∷ cs) h = refl
 int_says : (cs : List ℕ) (z : ℤ) → Says (remains cs) z → int_of cs ≡ ranged z
 int_says cs z s = int_left cs (says_some (remains cs) z s) ∙ says_parsed (remains cs) z s
 
-int_blank : (cs : List ℕ) → (cs ≡ [] → ⊥) → remains cs ≡ [] → int_of cs ≡ Skipped Blank
+int_blank : (cs : List ℕ) → (cs ≡ [] → ⊥) → remains cs ≡ [] → int_of cs ≡ Err Blank
 unfolding parsed int_of
 int_blank [] h e = absurd (h refl)
 int_blank (c ∷ cs) h e = rw e
 
 means_is : (cs : List ℕ) (a : Number) → Means cs a → int_of cs ≡ a
 unfolding int_of Means
-means_is cs (Value z) (s, r) = int_says cs z s ∙ in-range z r
-means_is cs (Skipped Ended) e = rw e
-means_is cs (Skipped Blank) (h, e) = int_blank cs h e
-means_is cs (Skipped NotNumber) (h, f) = int_left cs h ∙ none_parsed (remains cs) h f
-means_is cs (Skipped OutOfRange) (z, s, r) = int_says cs z s ∙ out_of_range z r
+means_is cs (Ok z) (s, r) = int_says cs z s ∙ in-range z r
+means_is cs (Err Ended) e = rw e
+means_is cs (Err Blank) (h, e) = int_blank cs h e
+means_is cs (Err NotNumber) (h, f) = int_left cs h ∙ none_parsed (remains cs) h f
+means_is cs (Err OutOfRange) (z, s, r) = int_says cs z s ∙ out_of_range z r
 
 pub means_only : (cs : List ℕ) (a b : Number) → Means cs a → Means cs b → a ≡ b
 means_only cs a b p q = sym (means_is cs a p) ∙ means_is cs b q
@@ -144,22 +144,22 @@ means_only cs a b p q = sym (means_is cs a p) ∙ means_is cs b q
 -- one of the five: by the characters, then by what is left of them, by its form, and by the number that it says
 one_of : (cs : List ℕ) → (a : Number) × Means cs a
 unfolding Means
-one_of [] = (Skipped Ended, refl)
+one_of [] = (Err Ended, refl)
 one_of (c ∷ cs) = by_left (remains (c ∷ cs)) refl
   where
     line : List ℕ
     line = c ∷ cs
 
     by_range : (z : ℤ) → Says (remains line) z → (t : Bool) → in_range z ≡ t → (a : Number) × Means line a
-    by_range z s true r = (Value z, (s, r))
-    by_range z s false r = (Skipped OutOfRange, (z, s, r))
+    by_range z s true r = (Ok z, (s, r))
+    by_range z s false r = (Err OutOfRange, (z, s, r))
 
     by_form : (remains line ≡ [] → ⊥) → (t : Bool) → numeral (digits_of (remains line)) ≡ t → (a : Number) × Means line a
     by_form h true n = let z = number (remains line) in by_range z (says_of (remains line) n) (in_range z) refl
-    by_form h false n = (Skipped NotNumber, (h, λ z s. true≢false (sym (says_is (remains line) z s).0 ∙ n)))
+    by_form h false n = (Err NotNumber, (h, λ z s. true≢false (sym (says_is (remains line) z s).0 ∙ n)))
 
     by_left : (l : List ℕ) → remains line ≡ l → (a : Number) × Means line a
-    by_left [] e = (Skipped Blank, (λ q. clash cc, e))
+    by_left [] e = (Err Blank, (λ q. clash cc, e))
     by_left (b ∷ bs) e = by_form (λ q. clash cc) (numeral (digits_of (remains line))) refl
 
 pub means : (cs : List ℕ) → Means cs (int_of cs)
@@ -176,16 +176,16 @@ nothing_left s at cs u = (past, none)
     none h = utf8_unique (line_at s at) cs [] u (utf8_none (line_at s at) (rw (line_none s at h)))
 
 pub skip_means : (s : List ℕ) (at n : ℕ) (why : Reason) → take_of int_of whole_line s at ≡ Skip n why
-    → (cs : List ℕ) × Utf8 (line_at s at) cs × Means cs (Skipped why)
+    → (cs : List ℕ) × Utf8 (line_at s at) cs × Means cs (Err why)
 unfolding push_or_skip
 skip_means s at n why e = go (takes_of int_of whole_line s at)
   where
-    by_number : (cs : List ℕ) (a : Number) → int_of cs ≡ a → Skip n why ≡ push_or_skip a (line_end s at) → Means cs (Skipped why)
-    by_number cs (Value v) q h = clash cc
-    by_number cs (Skipped w) q h =
+    by_number : (cs : List ℕ) (a : Number) → int_of cs ≡ a → Skip n why ≡ push_or_skip a (line_end s at) → Means cs (Err why)
+    by_number cs (Ok v) q h = clash cc
+    by_number cs (Err w) q h =
         let z : w ≡ why = cc in
-        subst (λ (x : Reason). Means cs (Skipped x)) z (subst (Means cs) q (means cs))
+        subst (λ (x : Reason). Means cs (Err x)) z (subst (Means cs) q (means cs))
 
-    go : Takes int_of whole_line s at (take_of int_of whole_line s at) → (cs : List ℕ) × Utf8 (line_at s at) cs × Means cs (Skipped why)
+    go : Takes int_of whole_line s at (take_of int_of whole_line s at) → (cs : List ℕ) × Utf8 (line_at s at) cs × Means cs (Err why)
     go (reads cs u h) = (cs, u, by_number cs (int_of cs) refl (sym e ∙ h))
     go (bad f h) = clash cc

@@ -15,7 +15,7 @@ use Rattle.text.specs.Utf8.{Valid, Reads, char, bad, past}
 use Rattle.text.specs.Trim.{Trims}
 use Rattle.text.specs.Input.{push_or_skip, Next, Takes, reads, bad as bad-line}
 use Rattle.text.specs.declared.utf8.Decoded.{Decoded}
-use Rattle.text.specs.declared.number.Number.{Number}
+use Rattle.text.specs.Number.{Number}
 use Rattle.text.specs.declared.input.Taken.{Taken}
 use Rattle.text.proofs.Utf8Laws.{prefix_char, utf8_unique}
 use Rattle.text.proofs.ValidLaws.{read_on, read_within}

@@ -17,7 +17,7 @@ use Rattle.text.specs.Utf8.{scalars, encode, encodes, Utf8}
 use Rattle.text.specs.Line.{line_at}
 use Rattle.text.specs.Input.{push_or_skip, Next, Takes, reads, bad}
 use Rattle.text.specs.Reading.{back, rest, chars, reading, same, valid, take_of}
-use Rattle.text.specs.declared.number.Number.{Number}
+use Rattle.text.specs.Number.{Number}
 use Rattle.text.specs.declared.input.Taken.{Taken}
 use Rattle.text.specs.declared.input.Taken.TheVariants.{BadInput}
 use Rattle.text.proofs.Utf8Laws.{back_encode, rest_encode, encode_some}

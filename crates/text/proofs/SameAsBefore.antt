@@ -20,8 +20,8 @@ use Rattle.text.specs.Utf8.{encodes, Utf8, Valid}
 use Rattle.text.specs.White.{trim_start, trimmed}
 use Rattle.text.specs.Number.{in_range, ranged, signed, plus as new-plus, minus as new-minus, parsed as new-parsed}
 use Rattle.text.specs.Input as new
-use Rattle.text.specs.declared.number.Number.{Number}
-use Rattle.text.specs.declared.number.Number.TheVariants.{Value, Skipped}
+use Rattle.text.specs.Number.{Number}
+use Rattle.std.specs.Prelude.{Ok, Err}
 use Rattle.text.specs.declared.number.Reason.TheVariants.{NotNumber}
 use Rattle.text.specs.declared.input.Taken.{Taken}
 use Rattle.text.specs.declared.input.Taken.TheVariants.{Push, Skip, BadInput}
@@ -93,13 +93,13 @@ forget BadInput = bad_input
 
 -- what a line gives, without the reason
 gives : Number → Was
-gives (Value v) = value v
-gives (Skipped why) = not_a_number
+gives (Ok v) = value v
+gives (Err why) = not_a_number
 
 forget_push : (a : Number) (n : ℕ) → forget (new.push_or_skip a n) ≡ push_or_skip (gives a) n
 unfolding new.push_or_skip push_or_skip forget gives
-forget_push (Value v) n = refl
-forget_push (Skipped why) n = refl
+forget_push (Ok v) n = refl
+forget_push (Err why) n = refl
 
 -- the numbers that a sign makes are in range exactly up to a limit
 module _ (f : ℕ → ℤ) (limit : ℕ) (within : (n : ℕ) → n ≤ limit → in_range (f n) ≡ true)
@@ -111,7 +111,7 @@ module _ (f : ℕ → ℤ) (limit : ℕ) (within : (n : ℕ) → n ≤ limit →
       n : ℕ
       n = value_after 0 bs
 
-      go : (t : Bool) → gives (cond t (ranged (f n)) (Skipped NotNumber)) ≡ sign f (cond (t && leb n limit) (is n) not)
+      go : (t : Bool) → gives (cond t (ranged (f n)) (Err NotNumber)) ≡ sign f (cond (t && leb n limit) (is n) not)
       go true = by_size limit n (λ h. rw (over n h, lt-leb n limit h)) (λ h. rw (within n h, le-leb n limit h))
       go false = refl
 

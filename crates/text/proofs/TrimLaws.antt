@@ -1,10 +1,8 @@
 -- White space at the ends of a text, character by character.
 --     FrontInv                 the white space before a place is at the front
 --     front_more, front_stop, front_bad, front_end      a step of the walk from the front, and its ends
---     tails_more               a step back over a continuation byte
 --     last_is                  the last character of a text begins at the last byte that is no continuation byte
 --     back_more, back_stop, back_bad, back_end          a step of the walk from the back, and its ends
---     both_ends                the two walks trim a line
 -- Assumes nothing.
 use Prim.Native.Nat.{ℕ, zero, suc, ◌+◌, ◌-◌, ◌<◌, ◌≤◌}
 use mathlib.Core.Path.{◌≡◌, refl, sym, ap, ◌∙◌, subst}
@@ -16,13 +14,11 @@ use native.Mathlib.Omega.{arith}
 use lib.ListN.{length, get_or, take, drop, length-append, drop_of_length-le, take-append-drop}
 use lib.Seq.{length-take-le, take-take, take_at, drop_at, get_or-take, get_or-append-add}
 use Rattle.base.proofs.Tests.{by_size}
-use Rattle.text.specs.Utf8.{Scalar, Scalars, encode, encodes, bytes2, bytes3, bytes4, IsTail, Utf8, Valid, IsChar}
+use Rattle.text.specs.Utf8.{Scalar, Scalars, encode, encodes, bytes2, bytes3, bytes4, IsTail, Utf8, IsChar}
 use Rattle.text.specs.White.{white_space, trim_start, trim_end}
-use Rattle.text.specs.Ends.{LastStart, Front, Back}
-use Rattle.text.specs.Trim.{Trims}
+use Rattle.text.specs.Ends.{LastStart}
 use Rattle.text.proofs.Utf8Laws.{scalars_none, scalars_more, scalars_both, prefix_char, utf8_unique, utf8_none, head_is, Form, form, form1, form2, form3, form4, encode_some}
 use Rattle.text.proofs.ValidLaws.{char_at, bad_never}
-use Rattle.text.proofs.Parts.{part_from}
 
 abbrev pub FrontInv : List ℕ → ℕ → Type 0
 FrontInv s i = (cs : List ℕ) → Utf8 s cs → (ds : List ℕ) × Utf8 (drop i s) ds × (trim_start cs ≡ trim_start ds)
@@ -59,11 +55,6 @@ module _ (s : List ℕ) (at : ℕ) (inv : FrontInv s at) where
       subst (λ (ds : List ℕ). Utf8 (drop at s) ds) (sym (v.2 ∙ ap trim_start e)) none
 
 -- ---- from the back
-pub tails_more : (s : List ℕ) (k end : ℕ) → ((j : ℕ) → k < j → j < end → IsTail (get_or s j 0)) → IsTail (get_or s k 0)
-    → (j : ℕ) → k - 1 < j → j < end → IsTail (get_or s j 0)
-tails_more s k end f h j a b =
-    ⊎_elim (λ e. subst (λ (i : ℕ). IsTail (get_or s i 0)) e h) (λ l. f j l b) (eq-or-lt_of_le {n = k} {m = j} (omega arith))
-
 -- of the bytes of a code point the first is no continuation byte, and the others are
 tails2 : (c j : ℕ) → 0 < j → j < 2 → IsTail (get_or (bytes2 c) j 0)
 tails2 c zero a b = absurd (omega arith)
@@ -230,12 +221,3 @@ back_end s end h inv cs u =
     let none : Utf8 (take end s) [] = utf8_none (take end s) (rw z) in
     let e : v.0 ≡ [] = utf8_unique (take end s) v.0 [] v.1 none in
     subst (λ (ds : List ℕ). Utf8 (take end s) ds) (sym (v.2 ∙ ap trim_end e)) none
-
--- ---- both ends
-pub both_ends : (s : List ℕ) (a e : ℕ) → Valid s → Front s a → Back (take (length s - a) (drop a s)) e
-    → Trims s (take e (take (length s - a) (drop a s)))
-both_ends s a e v f b =
-    record {
-      text = λ cs u. b.text (trim_start cs) (subst (λ (l : List ℕ). Utf8 l (trim_start cs)) (sym (part_from s a)) (f.text cs u));
-      other = λ n. absurd (n v);
-    }

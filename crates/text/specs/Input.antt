@@ -1,5 +1,5 @@
 -- What an input instruction takes of the input (rules 10.1 to 10.4, 10.8, 16.4). Assumes nothing.
-use Rattle.std.specs.Prelude.{ℕ, zero, suc, ◌+◌, ◌<◌, ◌≡◌, Bool, true, false, not, List, [], ◌∷◌, pos, eqb, length, get_or, take}
+use Rattle.std.specs.Prelude.{Ok, Err, ℕ, zero, suc, ◌+◌, ◌<◌, ◌≡◌, Bool, true, false, not, List, [], ◌∷◌, pos, eqb, length, get_or, take}
 use Rattle.base.specs.Edition.{by_edition}
 use Rattle.base.specs.declared.edition.Edition.{Edition}
 use Rattle.base.specs.declared.edition.Edition.TheVariants.{Page}
@@ -7,16 +7,15 @@ use Rattle.text.specs.Line.{line_at, line_end}
 use Rattle.text.specs.Utf8.{encodes, Utf8, Valid}
 use Rattle.text.specs.White.{trimmed}
 use Rattle.text.specs.Number.{parsed}
-use Rattle.text.specs.declared.number.Number.{Number}
-use Rattle.text.specs.declared.number.Number.TheVariants.{Value, Skipped}
+use Rattle.text.specs.Number.{Number}
 use Rattle.text.specs.declared.number.Reason.TheVariants.{Ended}
 use Rattle.text.specs.declared.input.Taken.{Taken}
 use Rattle.text.specs.declared.input.Taken.TheVariants.{Push, Skip, BadInput}
 
 -- CharIn: the first character of a line (rule 10.2). A line has a character; where there is none the input is at its end
 unfoldable pub char_of : List ℕ → Number
-char_of [] = Skipped Ended
-char_of (c ∷ cs) = Value (pos c)
+char_of [] = Err Ended
+char_of (c ∷ cs) = Ok (pos c)
 
 -- what is left of the characters of a line without the white space at its ends, in bytes
 abbrev pub remains : List ℕ → List ℕ
@@ -24,13 +23,13 @@ remains cs = encodes (trimmed cs)
 
 -- IntIn: the number that a line is without the white space at its ends (rule 10.3), or why it is none (rule 10.8)
 unfoldable pub int_of : List ℕ → Number
-int_of [] = Skipped Ended
+int_of [] = Err Ended
 int_of (c ∷ cs) = parsed (remains (c ∷ cs))
 
 -- what a line gives is pushed, or the step is skipped (rule 10.4); with the place where reading goes on
 unfoldable pub push_or_skip : Number → ℕ → Taken
-push_or_skip (Value v) n = Push v n
-push_or_skip (Skipped why) n = Skip n why
+push_or_skip (Ok v) n = Push v n
+push_or_skip (Err why) n = Skip n why
 
 -- where reading goes on: from the input, the place of a line and the line's characters
 abbrev pub Next : Type 0

@@ -1,9 +1,7 @@
 -- Inner: the bytes of a character of more than one, as the helpers of `decode` find them. No public contract cites it.
 -- Assumes nothing.
-use Rattle.std.specs.Prelude.{ℕ, ◌+◌, ◌<◌, ◌≡◌, List, length, get_or}
+use Rattle.std.specs.Prelude.{Option, Some, None, ℕ, ◌+◌, ◌<◌, ◌≡◌, List, length, get_or}
 use Rattle.text.specs.Utf8.{IsTail}
-use Rattle.text.specs.declared.utf8.Tail.{Tail}
-use Rattle.text.specs.declared.utf8.Tail.TheVariants.{Bits, Other}
 
 -- a continuation byte stands at a place, and has the bits x
 pub record Carries (s : List ℕ) (i x : ℕ) : Type 0 where
@@ -11,9 +9,9 @@ pub record Carries (s : List ℕ) (i x : ℕ) : Type 0 where
   pub small : x < 64
   pub byte : get_or s i 0 ≡ 0x80 + x
 
-pub data TailAt (s : List ℕ) (i : ℕ) (r : Tail) : Type 0 where
-  tail : (x : ℕ) → Carries s i x → r ≡ Bits x → TailAt s i r
-  other : (i < length s → IsTail (get_or s i 0) → ⊥) → r ≡ Other → TailAt s i r
+pub data TailAt (s : List ℕ) (i : ℕ) (r : Option ℕ) : Type 0 where
+  tail : (x : ℕ) → Carries s i x → r ≡ Some x → TailAt s i r
+  other : (i < length s → IsTail (get_or s i 0) → ⊥) → r ≡ None → TailAt s i r
 
 -- a first byte b with the bits `high`, after which so many continuation bytes follow; numbers below `least` need fewer
 pub data FirstByte (b high more least : ℕ) : Type 0 where

@@ -6,12 +6,13 @@ ghost use Rattle.text.specs.Input.{within_line, Judged};
 ghost use Rattle.text.specs.Line.{line_at, line_end};
 ghost use Rattle.text.specs.Utf8.{Valid};
 
-use crate::number::{Number, Reason, parse};
+use crate::number::{Reason, parse};
 use crate::utf8::{Decoded, decode, is_utf8};
 use crate::white::trim;
 use base::edition::Edition;
 
-// A value to push, or why there is none, with the place where reading goes on; or a line that is not UTF-8.
+// A value to push, or why there is none, with the place where reading goes on; or a line that is not UTF-8. Three cases, and so
+// neither an Option nor a Result.
 #[derive(Clone, Copy)]
 pub enum Taken {
     Push { value: i64, next: usize },
@@ -23,14 +24,12 @@ pub enum Taken {
 pub fn line_end(input: &[u8], at: usize) -> usize
     ensures { result ≡ line_end input.now at }
 {
-    let mut i = at;
-    while i < input.len() {
+    for i in at..input.len() {
         if input[i] == 10 {
             return i + 1;
         }
-        i += 1;
     }
-    i
+    input.len().max(at)
 }
 
 // IntIn: the line as a number, without the white space at its ends (rule 10.3), or why it is none (rule 10.8). At the end of
@@ -48,8 +47,8 @@ pub fn int_in(input: &[u8], at: usize) -> Taken
     let line = &input[at..end];
     if is_utf8(line) {
         match parse(trim(line)) {
-            Number::Value(value) => Taken::Push { value, next: end },
-            Number::Skipped(why) => Taken::Skip { next: end, why },
+            Ok(value) => Taken::Push { value, next: end },
+            Err(why) => Taken::Skip { next: end, why },
         }
     } else {
         Taken::BadInput

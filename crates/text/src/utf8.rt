@@ -4,7 +4,7 @@ ghost use Rattle.base.specs.Decides.{Decides};
 ghost use Rattle.text.specs.LongChar.{FirstByte, TailAt};
 ghost use Rattle.text.specs.Utf8.{scalar, Reads, Valid};
 
-// What stands at a place of the bytes.
+// What stands at a place of the bytes. Three cases, and so neither an Option nor a Result.
 #[derive(Clone, Copy)]
 pub enum Decoded {
     // The character cp, with the place after it.
@@ -15,13 +15,6 @@ pub enum Decoded {
     End,
 }
 
-// What a byte after the first of a character carries: six bits, or it is no such byte.
-#[derive(Clone, Copy)]
-pub(crate) enum Tail {
-    Bits(u32),
-    Other,
-}
-
 // A function of its own, so that a read of a byte asks no proof that the byte fits.
 pub(crate) fn wide(b: u8) -> u32
     ensures { result ≡ b }
@@ -29,22 +22,18 @@ pub(crate) fn wide(b: u8) -> u32
     b as u32
 }
 
-// The continuation byte at `i`.
-pub(crate) fn tail_at(s: &[u8], i: usize) -> Tail
+// What a byte after the first of a character carries, at `i`: six bits, or it is no such byte.
+pub(crate) fn tail_at(s: &[u8], i: usize) -> Option<u32>
     ensures { TailAt s.now i result }
 {
     if s.len() <= i {
-        return Tail::Other;
+        return None;
     }
     let b = wide(s[i]);
     if b < 0x80 {
-        return Tail::Other;
+        return None;
     }
-    if b < 0xC0 {
-        Tail::Bits(b - 0x80)
-    } else {
-        Tail::Other
-    }
+    if b < 0xC0 { Some(b - 0x80) } else { None }
 }
 
 // A character whose first byte has the bits `high` and is followed by `more` continuation bytes. One that fits fewer bytes,
@@ -54,10 +43,8 @@ fn decode_long(s: &[u8], at: usize, high: u32, more: usize, least: u32) -> Decod
     ensures { Reads s.now at result }
 {
     let mut cp = high;
-    let mut i: usize = 0;
-    while i < more {
-        i += 1;
-        let Tail::Bits(x) = tail_at(s, at + i) else {
+    for i in 0..more {
+        let Some(x) = tail_at(s, at + (i + 1)) else {
             return Decoded::Bad;
         };
         cp = cp * 64 + x;
@@ -104,6 +91,7 @@ pub fn decode(s: &[u8], at: usize) -> Decoded
 pub fn is_utf8(line: &[u8]) -> bool
     ensures { Decides (Valid line.now) result }
 {
+    // a step is a character's length, so this is no `for`
     let mut i = 0;
     while i < line.len() {
         let Decoded::Char { cp: _, next } = decode(line, i) else {

@@ -4,7 +4,7 @@ ghost use Rattle.text.specs.Ends.{Front, Back, LastStart};
 ghost use Rattle.text.specs.Trim.{Trims};
 ghost use Rattle.text.specs.White.{white_space};
 
-use crate::utf8::{Decoded, Tail, decode, is_utf8, tail_at};
+use crate::utf8::{Decoded, decode, is_utf8, tail_at};
 
 // The white space of rule 10.5.
 pub fn is_white(cp: u32) -> bool
@@ -30,6 +30,7 @@ pub fn is_white(cp: u32) -> bool
 fn white_front(line: &[u8]) -> usize
     ensures { Front line.now result }
 {
+    // a step is a character's length, so this is no `for`
     let mut i = 0;
     while i < line.len() {
         let Decoded::Char { cp, next } = decode(line, i) else {
@@ -51,7 +52,7 @@ fn last_start(s: &[u8], end: usize) -> usize
 {
     let mut k = end - 1;
     while 0 < k {
-        let Tail::Bits(_) = tail_at(s, k) else {
+        let Some(_) = tail_at(s, k) else {
             return k;
         };
         k -= 1;
@@ -63,6 +64,7 @@ fn last_start(s: &[u8], end: usize) -> usize
 fn white_back(line: &[u8]) -> usize
     ensures { Back line.now result }
 {
+    // a step is a character's length, so this is no `for`
     let mut e = line.len();
     while 0 < e {
         let k = last_start(line, e);

@@ -12,10 +12,10 @@ use Rattle.base.specs.declared.edition.Edition.TheVariants.{Page}
 use Rattle.text.specs.Line.{line_at}
 use Rattle.text.specs.Utf8.{Valid, IsChar}
 use Rattle.text.specs.Input.{char_of, char_next}
-use Rattle.text.specs.declared.number.Number.TheVariants.{Value}
+use Rattle.std.specs.Prelude.{Ok}
 use Rattle.text.proofs.ValidLaws.{is-char, else_tag, no_char, bad_never}
 use Rattle.text.proofs.LineLaws.{line_within, line_some}
-use Rattle.text.proofs.InputLaws.{take_none, char_stays, take_bad, take_push, char_of_lem, char-next}
+use Rattle.text.proofs.InputLaws.{take_none, char_stays, take_push, char_of_lem, char-next}
 use Rattle.text.proofs.input.char_in.Goals as goal
 
 pub returns-then-input-at : goal.returns-then-input-at
@@ -24,11 +24,6 @@ returns-then-input-at c =
     let a = c.args in
     take_none a.input.now a.at c.if-input-at.true char_of (char_next a.edition) refl
     (char_stays a.input.now a.at c.if-input-at.true a.edition)
-
-pub char_within-requires : goal.char_within-requires
-char_within-requires c =
-    let within : (c.args.edition ≡ Page) × Valid (line_at c.args.input.now c.args.at) = c.requires c.if-input-at.false (sym c.within_line.ensures ∙ c.if-within_line.true) in
-    record { at_in_bounds = c.if-input-at.false; valid = within.1 }
 
 pub returns-then-within_line : goal.returns-then-within_line
 returns-then-within_line c =
@@ -59,14 +54,9 @@ returns-in-Char c =
     let k = first in
     take_push char_of (char_next a.edition) a.input.now a.at c.line_end-end.result c.line_end-end.ensures v.0 v.1
     c.after_char-next.result _
-    (char_of_lem _ v.0 v.1 c.in-Char.cp c.in-Char.size k ∙ ap Value (sym (to_z_pos w64 c.in-Char.cp (omega arith))))
+    (char_of_lem _ v.0 v.1 c.in-Char.cp c.in-Char.size k ∙ ap Ok (sym (to_z_pos w64 c.in-Char.cp (omega arith))))
     (c.after_char-next.ensures
     ∙ char-next _ v.0 v.1 c.in-Char.cp c.in-Char.size k a.edition a.input.now a.at c.line_end-end.result c.line_end-end.ensures)
-
-pub returns-else-is_utf8 : goal.returns-else-is_utf8
-returns-else-is_utf8 c =
-    take_bad char_of (char_next c.args.edition) c.args.input.now c.args.at c.line_end-end.result c.line_end-end.ensures
-    (rw c.if-is_utf8.false at c.is_utf8.ensures)
 
 pub slice_bounds-whole-end : goal.slice_bounds-whole-end
 slice_bounds-whole-end c = omega (arith, line_within c.args.input.now c.args.at (omega (arith, c.if-input-at.false)))

@@ -9,9 +9,9 @@ use borrow.Author.Rules.{rules}
 use lib.ListN.{length, take, drop}
 use Rattle.text.specs.Utf8.{Valid}
 use Rattle.text.specs.Input.{int_of, whole_line}
-use Rattle.text.specs.declared.number.Number.TheVariants.{Value}
+use Rattle.std.specs.Prelude.{Ok}
 use Rattle.text.proofs.LineLaws.{line_within, line_some}
-use Rattle.text.proofs.InputLaws.{take_none, line_stays, take_bad, take_skip, take_push, int-of}
+use Rattle.text.proofs.InputLaws.{take_none, line_stays, take_skip, take_push, int-of}
 use Rattle.text.proofs.input.int_in.Goals as goal
 
 pub returns-then-input-at : goal.returns-then-input-at
@@ -20,8 +20,8 @@ returns-then-input-at c =
     let a = c.args in
     take_none a.input.now a.at c.if-input-at.true int_of whole_line refl (line_stays a.input.now a.at c.if-input-at.true)
 
-pub returns-in-Value : goal.returns-in-Value
-returns-in-Value c =
+pub returns-in-Ok : goal.returns-in-Ok
+returns-in-Ok c =
     let line : List ℕ = take (c.line_end-end.result - c.args.at) (drop c.args.at c.args.input.now) in
     let valid : Valid line = rw c.if-is_utf8.true at c.is_utf8.ensures in
     let some_bytes : 0 < length line =
@@ -34,10 +34,10 @@ returns-in-Value c =
     let v = valid in
     let a = c.args in
     take_push int_of whole_line a.input.now a.at c.line_end-end.result c.line_end-end.ensures v.0 v.1 c.line_end-end.result _
-    (number ∙ c.in-Value.is ∙ ap Value (sym (search rules))) c.line_end-end.ensures
+    (number ∙ c.in-Ok.is ∙ ap Ok (sym (search rules))) c.line_end-end.ensures
 
-pub returns-in-Skipped : goal.returns-in-Skipped
-returns-in-Skipped c =
+pub returns-in-Err : goal.returns-in-Err
+returns-in-Err c =
     let line : List ℕ = take (c.line_end-end.result - c.args.at) (drop c.args.at c.args.input.now) in
     let valid : Valid line = rw c.if-is_utf8.true at c.is_utf8.ensures in
     let some_bytes : 0 < length line =
@@ -50,12 +50,7 @@ returns-in-Skipped c =
     let v = valid in
     let a = c.args in
     take_skip int_of whole_line a.input.now a.at c.line_end-end.result c.line_end-end.ensures v.0 v.1 c.line_end-end.result
-    c.in-Skipped.why (number ∙ c.in-Skipped.is) c.line_end-end.ensures
-
-pub returns-else-is_utf8 : goal.returns-else-is_utf8
-returns-else-is_utf8 c =
-    take_bad int_of whole_line c.args.input.now c.args.at c.line_end-end.result c.line_end-end.ensures
-    (rw c.if-is_utf8.false at c.is_utf8.ensures)
+    c.in-Err.why (number ∙ c.in-Err.is) c.line_end-end.ensures
 
 pub slice_bounds-line-end : goal.slice_bounds-line-end
 slice_bounds-line-end c = omega (arith, line_within c.args.input.now c.args.at (omega arith))

@@ -1,10 +1,8 @@
-use mathlib.Core.Path.{refl}
 use native.Mathlib.Omega.{arith}
+use lib.ListN.{length}
+use Rattle.base.proofs.Tests.{by_size}
 use Rattle.text.proofs.LineLaws.{line_none, line_here, line_more}
 use Rattle.text.proofs.input.line_end.Goals as goal
-
-pub loop-i-init : goal.loop-i-init
-loop-i-init c = refl
 
 pub returns-then-input-i-eq10 : goal.returns-then-input-i-eq10
 returns-then-input-i-eq10 c =
@@ -16,4 +14,5 @@ loop-i-preserved c =
 
 pub returns : goal.returns
 returns c =
-    omega (arith, line_none c.args.input.now c.loop-i.i c.loop-i-test.false)
+    let s = c.args.input.now in
+    by_size c.args.at (length s) (λ h. omega (arith, line_none s c.loop-i.i (omega arith))) (λ h. omega (arith, line_none s c.args.at h))

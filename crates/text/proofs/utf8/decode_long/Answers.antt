@@ -1,12 +1,8 @@
 use Prim.Native.Nat.{◌+◌}
 use mathlib.Core.Path.{◌≡◌, sym, ◌∙◌}
 use native.Mathlib.Omega.{arith}
-use Rattle.text.specs.LongChar.{Carries}
-use Rattle.text.proofs.DecodeLaws.{carries, no_tail, no_char_at, Gathers, gathers_none, gathers_more, all_of, number_small, tail_needed, same_number, reads_long, no_scalar}
+use Rattle.text.proofs.DecodeLaws.{carries, no_tail, no_char_at, Gathers, all_of, number_small, tail_needed, same_number, reads_long, no_scalar}
 use Rattle.text.proofs.utf8.decode_long.Goals as goal
-
-pub loop-i-init : goal.loop-i-init
-loop-i-init c = let a = c.args in (omega arith, gathers_none a.s.now a.at a.high)
 
 pub returns-in_default : goal.returns-in_default
 returns-in_default c =
@@ -16,23 +12,15 @@ returns-in_default c =
     let at = c.args.at in
     no_char_at s at c.requires.0
     (λ k st.
-    let n = tail_needed s at c.args.high c.requires.1 k st i c.loop-i-test.true in
+    let n = tail_needed s at c.args.high c.requires.1 k st i (omega arith) in
     no_tail s (at + (i + 1)) t.result t.ensures c.in_default.is n.0 n.1)
-
-pub loop-i-preserved : goal.loop-i-preserved
-loop-i-preserved c =
-    let tail-x : Carries c.args.s.now (c.args.at + (c.loop-i.i + 1)) c.in-Bits.x =
-    let t = c.tail_at in
-    carries _ _ t.result t.ensures c.in-Bits.x c.in-Bits.is in
-    let a = c.args in
-    (omega arith, gathers_more a.s.now a.at a.high c.loop-i.i c.loop-i.cp _ c.loop-i.invariant.1 tail-x)
 
 pub returns-then-cp-least : goal.returns-then-cp-least
 returns-then-cp-least c =
     let whole : let a = c.args in Gathers a.s.now a.at a.high a.more c.loop-i.cp =
     let a = c.args in
     let e : c.loop-i.i ≡ a.more = omega arith in
-    all_of a.s.now a.at a.high c.loop-i.cp c.loop-i.i a.more e c.loop-i.invariant.1 in
+    all_of a.s.now a.at a.high c.loop-i.cp c.loop-i.i a.more e c.loop-i.invariant in
     let s = c.args.s.now in
     let at = c.args.at in
     no_char_at s at c.requires.0
@@ -43,7 +31,7 @@ returns-then-is_scalar c =
     let whole : let a = c.args in Gathers a.s.now a.at a.high a.more c.loop-i.cp =
     let a = c.args in
     let e : c.loop-i.i ≡ a.more = omega arith in
-    all_of a.s.now a.at a.high c.loop-i.cp c.loop-i.i a.more e c.loop-i.invariant.1 in
+    all_of a.s.now a.at a.high c.loop-i.cp c.loop-i.i a.more e c.loop-i.invariant in
     reads_long c.args.s.now c.args.at c.args.high c.loop-i.cp c.requires.1 whole c.if-cp-least.false
     (sym c.is_scalar.ensures ∙ c.if-is_scalar.true)
 
@@ -52,18 +40,18 @@ returns c =
     let whole : let a = c.args in Gathers a.s.now a.at a.high a.more c.loop-i.cp =
     let a = c.args in
     let e : c.loop-i.i ≡ a.more = omega arith in
-    all_of a.s.now a.at a.high c.loop-i.cp c.loop-i.i a.more e c.loop-i.invariant.1 in
+    all_of a.s.now a.at a.high c.loop-i.cp c.loop-i.i a.more e c.loop-i.invariant in
     no_scalar c.args.s.now c.args.at c.args.high c.loop-i.cp c.requires.0 c.requires.1 whole
     (sym c.is_scalar.ensures ∙ c.if-is_scalar.false)
 
 pub overflow_mul-cp : goal.overflow_mul-cp
 overflow_mul-cp c =
     let a = c.args in
-    omega (arith, number_small a.s.now a.at a.high c.requires.1 c.loop-i.i c.loop-i.cp (omega arith) c.loop-i.invariant.1)
+    omega (arith, number_small a.s.now a.at a.high c.requires.1 c.loop-i.i c.loop-i.cp (omega arith) c.loop-i.invariant)
 
 pub overflow_add-cp : goal.overflow_add-cp
 overflow_add-cp c =
     let a = c.args in
     let t = c.tail_at in
-    let x = carries _ _ t.result t.ensures c.in-Bits.x c.in-Bits.is in
-    omega (arith, number_small a.s.now a.at a.high c.requires.1 c.loop-i.i c.loop-i.cp (omega arith) c.loop-i.invariant.1)
+    let x = carries _ _ t.result t.ensures c.in-Some.x c.in-Some.is in
+    omega (arith, number_small a.s.now a.at a.high c.requires.1 c.loop-i.i c.loop-i.cp (omega arith) c.loop-i.invariant)

@@ -1,12 +1,8 @@
 -- `text::utf8::decode_long` meets its contract. The loop's invariant: the bits of the first byte and of i continuation bytes
 -- are the number. Where a continuation byte is missing, or the number is overlong or no scalar, no character stands there.
 -- Assumes nothing.
-use Prim.Native.Nat.{◌-◌, ◌≤◌}
 use Rattle.text.proofs.DecodeLaws.{Gathers}
 use Rattle.text.proofs.utf8.decode_long.Given as goal
 
 abbrev pub invariant-loop-i : goal.invariant-loop-i
-invariant-loop-i l = (l.i ≤ l.more) × Gathers l.s l.at l.high l.i l.cp
-
-abbrev pub decreases-loop-i : goal.decreases-loop-i
-decreases-loop-i l = l.more - l.i
+invariant-loop-i l = Gathers l.s l.at l.high l.i l.cp

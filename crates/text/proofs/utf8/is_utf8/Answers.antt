@@ -3,9 +3,6 @@ use Rattle.text.specs.Utf8.{IsChar}
 use Rattle.text.proofs.ValidLaws.{read_on, read_within, valid_more, valid_rest, valid_none, bad_never, is-char, else_tag, no_char}
 use Rattle.text.proofs.utf8.is_utf8.Goals as goal
 
-pub loop-i-init : goal.loop-i-init
-loop-i-init c = (omega arith, (λ v. v, λ v. v))
-
 pub returns-in_default : goal.returns-in_default
 returns-in_default c =
     let s = c.args.line.now in

@@ -1,17 +1,9 @@
-use Prim.Native.Nat.{ℕ}
-use mathlib.Core.Path.{refl, sym, ◌∙◌, subst}
-use mathlib.Core.List.{List}
+use mathlib.Core.Path.{sym, ◌∙◌}
 use native.Mathlib.Omega.{arith}
-use lib.Seq.{take-length}
-use Rattle.text.specs.Utf8.{Utf8, IsChar}
+use Rattle.text.specs.Utf8.{IsChar}
 use Rattle.text.proofs.ValidLaws.{is-char, else_tag, no_char}
 use Rattle.text.proofs.TrimLaws.{back_more, back_stop, back_bad, back_end}
 use Rattle.text.proofs.white.white_back.Goals as goal
-
-pub loop-e-init : goal.loop-e-init
-loop-e-init c =
-    let s = c.args.line.now in
-    (omega arith, λ cs u. (cs, subst (λ (l : List ℕ). Utf8 l cs) (sym (take-length s)) u, refl))
 
 pub returns-in_default : goal.returns-in_default
 returns-in_default c =
@@ -20,11 +12,6 @@ returns-in_default c =
     let d = c.decode in
     let none = no_char s k.result d.result d.ensures (else_tag s k.result d.result d.ensures c.in_default.not-Char) (omega (arith, k.ensures)) in
     record { within = c.loop-e.invariant.0; text = back_bad s c.loop-e.e k.result c.loop-e.invariant.0 k.ensures c.loop-e.invariant.1 none }
-
-pub loop-e-smaller : goal.loop-e-smaller
-loop-e-smaller c =
-    let k = c.last_start-k in
-    omega (arith, k.ensures)
 
 pub loop-e-preserved : goal.loop-e-preserved
 loop-e-preserved c =

@@ -1,12 +1,9 @@
-use mathlib.Core.Path.{refl, sym, ◌∙◌}
+use mathlib.Core.Path.{sym, ◌∙◌}
 use native.Mathlib.Omega.{arith}
 use Rattle.text.specs.Utf8.{IsChar}
 use Rattle.text.proofs.ValidLaws.{read_on, read_within, is-char, else_tag, no_char}
 use Rattle.text.proofs.TrimLaws.{front_more, front_stop, front_bad, front_end}
 use Rattle.text.proofs.white.white_front.Goals as goal
-
-pub loop-i-init : goal.loop-i-init
-loop-i-init c = (omega arith, λ cs u. (cs, u, refl))
 
 pub returns-in_default : goal.returns-in_default
 returns-in_default c =
