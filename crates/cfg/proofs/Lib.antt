@@ -5,7 +5,6 @@ pub mod Bare
 pub mod Queueing
 pub mod Trying
 pub mod Searching
-pub mod Keeping
 pub mod Stages
 pub mod Refusing
 pub mod Leads

@@ -6,15 +6,14 @@
 use mathlib.Core.Path.{◌≡◌, refl, sym, ap, ◌∙◌}
 use mathlib.Core.Bool.{Bool, true, false, not, ◌||◌, true≢false}
 use mathlib.Core.List.{List, [], ◌∷◌, ◌++◌}
-use Prim.Native.Nat.{ℕ, zero, suc, ◌+◌, ◌-◌, ◌*◌, ◌<◌, ◌≤◌}
-use native.Mathlib.Nat.{div-le_self, mul-le-mul, zero-mul}
-use native.Mathlib.Numerals.{add-one}
+use Prim.Native.Nat.{ℕ, zero, suc, ◌+◌, ◌*◌, ◌<◌, ◌≤◌}
+use native.Mathlib.Nat.{zero-mul}
 use native.Mathlib.Omega.{arith}
 use borrow.Author.Tests.{lt-ltb, le-ltb, eqb-true, ltb-false, eq-eqb, ne_eqb}
 use lib.Arith.{digits_lt}
 use lib.Dec.{ltb}
-use lib.ListN.{length, get_or, take, drop, drop_of_length-le, take-append-drop, length-replicate}
-use lib.Seq.{drop-cons, length-take-le, take_at, drop_at}
+use lib.ListN.{length, get_or, take, drop, take-append-drop, length-replicate}
+use lib.Seq.{length-take-le, take_at, drop_at}
 use Rattle.base.specs.Numbers.{Numbers, numbers, first}
 use Rattle.base.specs.Limits.{wrong_side}
 use Rattle.base.specs.Edition.{unknown_edition}
@@ -28,7 +27,7 @@ use Rattle.cfg.specs.Table.{Builds}
 use Rattle.cfg.specs.Search.{Sized}
 use Rattle.cfg.specs.Build.{numbered, legal_first, short, picture_refusals, picture_refusal, refusals, refusal, Enough, Written, Outcome, refused, done}
 use Rattle.table.specs.Layout.{rows_room, exits_room}
-use Rattle.picture.specs.Picture.{Picture, ceil, codels}
+use Rattle.picture.specs.Picture.{Picture, codels}
 use Rattle.picture.proofs.Codels.{cols_pos}
 use Rattle.cfg.proofs.TableLaws.{table_only}
 
@@ -41,16 +40,6 @@ many_of e h = omega arith
 
 pub short_of : (m r e w : ℕ) {x y : ℕ} {b v : Bool} → x ≡ y → b ≡ short x m r e w → b ≡ v → short y m r e w ≡ v
 short_of m r e w q h k = (rw q at (sym h)) ∙ k
-
--- a side has no more codels than pixels and a codel together
-pub ceil_small : (n k : ℕ) → n ≤ 1024 → k ≤ 1024 → ceil n k ≤ 2048
-ceil_small n k h l = omega (arith, div-le_self (n + (k - 1)) k)
-
-pub product_small : {a b : ℕ} → a ≤ 2048 → b ≤ 2048 → a * b ≤ 4194304
-product_small h k = mul-le-mul h k
-
-pub area_small : {a b : ℕ} → a ≤ 1024 → b ≤ 1024 → a * b ≤ 1048576
-area_small h k = mul-le-mul h k
 
 pub area_pos : {a b : ℕ} → 0 < a → 0 < b → 0 < a * b
 area_pos {a} {b} h k =

@@ -6,7 +6,7 @@
 use mathlib.Core.Path.{◌≡◌, refl, ap, ◌∙◌}
 use mathlib.Core.Logic.{◌≢◌, by_cases}
 use mathlib.Core.List.{List}
-use Prim.Native.Nat.{ℕ, ◌+◌, ◌*◌, ◌/◌, ◌%◌, ◌<◌, ◌≤◌}
+use Prim.Native.Nat.{ℕ, ◌+◌, ◌*◌, ◌/◌, ◌%◌, ◌<◌}
 use native.Mathlib.Decide.{dec_lt}
 use native.Mathlib.Omega.{arith}
 use lib.ListN.{length, get_or, set, length-set}
@@ -16,8 +16,8 @@ use Rattle.flow.specs.Pointer.{Valid, state_number, of_number}
 use Rattle.flow.proofs.Order.{valid_number}
 use Rattle.flow.specs.declared.PointerState.{PointerState}
 use Rattle.cfg.specs.Nodes.{Found, next}
-use Rattle.cfg.specs.Search.{way_number, Queued, InGrid, Grounds, Queue, Settled, Tries, Several, Taken}
-use Rattle.table.specs.Layout.{mark_of, exit_cell, exits_room, exit_at}
+use Rattle.cfg.specs.Search.{way_number, Queued, InGrid, Grounds, Queue, Settled, Tries, Several}
+use Rattle.table.specs.Layout.{mark_of, exit_cell, exit_at}
 use Rattle.table.proofs.Cells.{exit_apart}
 use Rattle.exit.specs.declared.attempt.Way.{Way}
 use Rattle.exit.specs.declared.attempt.Way.TheVariants.{Step, Glide}
@@ -87,9 +87,6 @@ module _ {e : Edition} {p : Picture} {map : List ℕ} {r k : ℕ} {rows exits wo
 -- the exit number of a way, from what the code reads
 pub exit_needs : {p : Picture} {map : List ℕ} → Grounds p map → (a b cols : ℕ) → Inside p a b → cols ≡ cols_of p → (a * cols + b < length map) × (get_or map (a * cols + b) 0 < 65536)
 exit_needs G a b cols i e = rw e (at_in G a b i, omega (arith, region_low G a b i, G.sound.few))
-
-pub exit_small : {p : Picture} {map : List ℕ} → Grounds p map → (a b cols : ℕ) → Inside p a b → cols ≡ cols_of p → a * cols + b < 65536
-exit_small G a b cols i e = omega (arith, (exit_needs G a b cols i e).0, G.long, G.sound.few)
 
 module _ (e : Edition) (p : Picture) (map : List ℕ) (from s x cols : ℕ) (ec : cols ≡ cols_of p) where
   pub step_number : (a b i to : ℕ) → x ≡ exit_number (get_or map (a * cols + b) 0) s i → i ≡ decode_of from to → to ≡ colour_at p a b → x ≡ way_number e p map from s (Step a b)

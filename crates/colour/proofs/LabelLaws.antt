@@ -1,26 +1,18 @@
 -- Laws of decimal digits and of a label's length. Assumes nothing.
 use mathlib.Core.Path.{◌≡◌, ◌∙◌, refl}
-use mathlib.Core.List.{List, [], ◌∷◌, ◌++◌}
+use mathlib.Core.List.{List, ◌++◌}
 use Prim.Native.Nat.{ℕ, zero, suc, ◌+◌, ◌-◌, ◌/◌, ◌%◌, ◌≤◌}
 use native.Mathlib.Omega.{arith}
 use borrow.Author.Tests.{ltb-false}
 use lib.Dec.{eqb, ltb}
 use mathlib.Core.Bool.{Bool, true, false, cond, ◌||◌}
-use lib.ListN.{length, length-append, replicate, get_or-eq_default}
+use lib.ListN.{length, length-append, replicate}
 use Rattle.colour.specs.Label.{hue_name, lightness_name, name, place, is_entry, label_of, padded, refused}
 use Rattle.base.specs.Lent.{lent, filled, Put}
 use Rattle.base.specs.Text.{ascii}
 use Rattle.base.proofs.Over.{over_zero, put_put}
 use Rattle.base.proofs.Decimal.{decimal_length}
 use Rattle.base.proofs.Tests.{neither}
-
-pub hue_last : (k : ℕ) → (k ≡ 0 → ⊥) → (k ≡ 1 → ⊥) → (k ≡ 2 → ⊥) → (k ≡ 3 → ⊥) → (k ≡ 4 → ⊥) → hue_name k ≡ ascii "Magenta"
-hue_last k z₀ z₁ z₂ z₃ z₄ =
-    let h : 5 ≤ k = omega arith in
-    get_or-eq_default (ascii "Red" ∷ ascii "Yellow" ∷ ascii "Green" ∷ ascii "Cyan" ∷ ascii "Blue" ∷ []) (ascii "Magenta") h
-
-pub lightness_last : (k : ℕ) → 2 ≤ k → lightness_name k ≡ ascii "Light"
-lightness_last k h = get_or-eq_default (ascii "Dark" ∷ ascii "Reg" ∷ []) (ascii "Light") h
 
 pub hue_length : (k : ℕ) → length (hue_name k) ≤ 7
 hue_length zero = omega arith

@@ -155,24 +155,12 @@ module _ (map best : List ℕ) (rows cols : ℕ) (s : PointerState) (i : ℕ) (L
           (sym (get_or-set_other best (cell_of map s i) k (better map rows cols s i held) 0 (eqb-false k (cell_of map s i) e)))
           (L.codels k l)
 
-pub kept_none : (map best : List ℕ) (rows cols : ℕ) (s : PointerState) → Kept map best best rows cols s 0
-kept_none map best rows cols s = record { same_length = refl; best = λ j l. absurd (none j l); others = λ k n. refl }
-  where
-    none : (j : ℕ) → j < 0 → ⊥
-    none j l = omega arith
-
 -- what the code stores, of values that were worked out
 pub stored : (map best : List ℕ) (rows cols : ℕ) (s : PointerState) (i : ℕ) {cell j v : ℕ} → cell ≡ cell_of map s i → j ≡ get_or best cell 0
     → v ≡ better map rows cols s i j → set best cell v ≡ kept map best rows cols s i
 stored map best rows cols s i e f g = rw (g, f, e)
 
 -- ---- one state more
-
-pub all_none : (map best : List ℕ) (rows cols : ℕ) → AllKept map best best rows cols 0
-all_none map best rows cols = record { same_length = refl; leaves = λ s l. absurd (none s l); others = λ r s k n. refl }
-  where
-    none : (j : ℕ) → j < 0 → ⊥
-    none j l = omega arith
 
 -- a state's number
 number_is : (s : ℕ) → state_number (of_number s) ≡ s

@@ -5,7 +5,7 @@
 use mathlib.Core.Path.{◌≡◌, sym, ap, ◌∙◌}
 use Prim.Native.Nat.{ℕ, zero, suc, ◌+◌, ◌-◌, ◌*◌, ◌/◌, ◌%◌, ◌≤◌, ◌<◌}
 use native.Mathlib.Numerals.{add-one-le}
-use native.Mathlib.Nat.{div-lt_iff_lt-mul, mul-le-mul_right, add-mul, div-add-mod', mod-lt, add-div_right, add-mod_right, div-eq_of_lt, le_refl, le_of_lt, mul-zero, zero-mul, suc-mul}
+use native.Mathlib.Nat.{div-lt_iff_lt-mul, mul-le-mul_right, add-mul, div-add-mod', mod-lt, add-div_right, add-mod_right, div-eq_of_lt, le_refl, le_of_lt, mul-zero}
 use native.Mathlib.Omega.{arith}
 use lib.Arith.{digits_div, digits_mod}
 use Rattle.region.specs.Grid.{Toward, Neighbour}
@@ -34,11 +34,6 @@ outside {n} {c} none = record { most = le_refl (n * c); is = λ h. absurd (omega
 pub columns : (n c i : ℕ) → i < n * c → 0 < c
 columns n zero i h = absurd (omega (arith, mul-zero n))
 columns n (suc c) i h = omega arith
-
--- a grid with a codel has no more columns than codels
-pub at_most_count : (n c i : ℕ) → i < n * c → c ≤ n * c
-at_most_count zero c i h = absurd (omega (arith, zero-mul c))
-at_most_count (suc n) c i h = omega (arith, suc-mul n c)
 
 -- a codel that is not the last of its row has one to the right
 right_inside : (n c i : ℕ) → i < n * c → i % c + 1 < c → i + 1 < n * c

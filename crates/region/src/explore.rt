@@ -59,7 +59,7 @@ fn expand(
     let colour = codel_colour(grid, i);
     let mut end = tail;
     for way in 0..4 {
-        let j = neighbour(grid, i, way);
+        let j = neighbour(grid.shape, i, way);
         end = visit(grid, colour, number, j, map, work, end);
     }
     end

@@ -3,8 +3,7 @@
 use mathlib.Core.Path.{◌≡◌, ◌∙◌, sym}
 use Prim.Native.Nat.{ℕ, ◌<◌, ◌≤◌}
 use native.Mathlib.Omega.{arith}
-use Rattle.base.proofs.Sides.{side}
-use Rattle.cfg.proofs.Refusing.{on_unknown, on_known, on_height, on_width, on_codel, on_grid, on_bytes, on_colour, on_white, on_room, on_none, area_small, area_pos, few_of, many_of, short_of}
+use Rattle.cfg.proofs.Refusing.{on_unknown, on_known, on_height, on_width, on_codel, on_grid, on_bytes, on_colour, on_white, on_room, on_none, few_of, many_of, short_of}
 use Rattle.picture.specs.Picture.{picture}
 use Rattle.cfg.proofs.building.check.Goals as goal
 
@@ -39,16 +38,6 @@ returns-then-wrong_side-3 c =
     let the-wrong-side2 = c.wrong_side-2 in
     let the-if3 = c.if-wrong_side-2 in
     on_codel (picture the-args.height the-args.width the-args.codel the-args.colours.now) the-args.map the-args.rows the-args.exits the-args.work (sym the-wrong-side.ensures ∙ the-if2.false) (sym the-wrong-side2.ensures ∙ the-if3.false) (sym c.wrong_side-3.ensures ∙ c.if-wrong_side-3.true) ∙ on_known c.args.edition (picture c.args.height c.args.width c.args.codel c.args.colours.now) c.args.map c.args.rows c.args.exits c.args.work (sym c.unknown_edition.ensures ∙ c.if-unknown_edition.false)
-
-pub codel_count-count-requires : goal.codel_count-count-requires
-codel_count-count-requires c =
-    let the-args = c.args in
-    let the-wrong-side = c.wrong_side in
-    let the-if2 = c.if-wrong_side in
-    let the-wrong-side2 = c.wrong_side-2 in
-    let the-if3 = c.if-wrong_side-2 in
-    let a = the-args in
-    ((side a.height (sym the-wrong-side.ensures ∙ the-if2.false)).1, (side a.width (sym the-wrong-side2.ensures ∙ the-if3.false)).1, (side a.codel (sym c.wrong_side-3.ensures ∙ c.if-wrong_side-3.false)).0, (side a.codel (sym c.wrong_side-3.ensures ∙ c.if-wrong_side-3.false)).1)
 
 pub returns-then-count-gt65536 : goal.returns-then-count-gt65536
 returns-then-count-gt65536 c =
@@ -86,17 +75,6 @@ returns-then-index-pixels c =
     let the-if5 = c.if-count-gt65536 in
     let the-if6 = c.if-colours-pixels in
     rw c.legal_first-index.ensures (on_colour (picture the-args.height the-args.width the-args.codel the-args.colours.now) the-args.map the-args.rows the-args.exits the-args.work (sym the-wrong-side.ensures ∙ the-if2.false) (sym the-wrong-side2.ensures ∙ the-if3.false) (sym the-wrong-side3.ensures ∙ the-if4.false) (few_of the-codel-count.ensures the-if5.false) the-if6.false (less-of c.legal_first-index.ensures the-if6.false c.if-index-pixels.true) ∙ on_known c.args.edition (picture c.args.height c.args.width c.args.codel c.args.colours.now) c.args.map c.args.rows c.args.exits c.args.work (sym c.unknown_edition.ensures ∙ c.if-unknown_edition.false))
-
-pub bounds-colours-0 : goal.bounds-colours-0
-bounds-colours-0 c =
-    let the-args = c.args in
-    let the-if6 = c.if-colours-pixels in
-    let the-wrong-side = c.wrong_side in
-    let the-if2 = c.if-wrong_side in
-    let the-wrong-side2 = c.wrong_side-2 in
-    let the-if3 = c.if-wrong_side-2 in
-    let a = the-args in
-    omega (arith, the-if6.false, area_pos (side a.height (sym the-wrong-side.ensures ∙ the-if2.false)).0 (side a.width (sym the-wrong-side2.ensures ∙ the-if3.false)).0)
 
 pub returns-then-colours-eq-WHITE : goal.returns-then-colours-eq-WHITE
 returns-then-colours-eq-WHITE c =

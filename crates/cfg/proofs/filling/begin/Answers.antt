@@ -1,23 +1,8 @@
 -- `cfg::filling::begin` meets its contract: the crate region's contracts, read at the shape of the picture.
 -- Assumes nothing.
 use mathlib.Core.Path.{◌∙◌}
-use native.Mathlib.Omega.{arith}
-use Rattle.picture.proofs.Codels.{grid_count}
 use Rattle.region.proofs.GridLaws.{framed_grid}
 use Rattle.cfg.proofs.filling.begin.Goals as goal
-
-pub number_regions-n-requires : goal.number_regions-n-requires
-number_regions-n-requires c =
-    let the-pre = c.requires in
-    let e = grid_count c.args.grid in
-    record { map_room = omega (arith, e, the-pre.map_long); work_room = omega (arith, e, the-pre.work_long) }
-
-pub region_rows-requires : goal.region_rows-requires
-region_rows-requires c =
-    let the-pre = c.requires in
-    let the-number-regions = c.number_regions-n in
-    let e = grid_count c.args.grid in
-    record { map = the-number-regions.ensures.numbers; cols_in_bounds = omega (arith, e, the-pre.rows_long) }
 
 pub returns : goal.returns
 returns c =

@@ -1,7 +1,6 @@
 -- `cfg::nodes::clear_exits` meets its contract: the loop's invariant: the exits of the states below s are 0 (`Zeros`).
 -- Assumes nothing.
 use mathlib.Core.Path.{◌≡◌}
-use Prim.Native.Nat.{◌-◌, ◌≤◌}
 use lib.ListN.{length}
 use Rattle.cfg.specs.Search.{Zeros}
 use Rattle.cfg.proofs.nodes.clear_exits.Given as goal

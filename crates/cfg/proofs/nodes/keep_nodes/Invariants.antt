@@ -1,7 +1,6 @@
 -- `cfg::nodes::keep_nodes` meets its contract: the loop's invariant: the regions below r are kept or not (`Cleared`).
 -- Assumes nothing.
 use mathlib.Core.Path.{◌≡◌}
-use Prim.Native.Nat.{◌-◌, ◌≤◌}
 use lib.ListN.{length}
 use Rattle.cfg.specs.Search.{Cleared}
 use Rattle.cfg.proofs.nodes.keep_nodes.Given as goal

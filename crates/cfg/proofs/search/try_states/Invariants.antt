@@ -1,6 +1,5 @@
 -- `cfg::search::try_states` meets its contract: the loop's invariant: the states below `state` are settled (`Several`).
 -- Assumes nothing.
-use Prim.Native.Nat.{◌-◌, ◌≤◌}
 use Rattle.picture.specs.Codels.{picture_in}
 use Rattle.cfg.specs.Search.{Several}
 use Rattle.cfg.proofs.search.try_states.Given as goal

@@ -2,14 +2,11 @@
 -- Assumes nothing.
 use mathlib.Core.Path.{◌≡◌, ◌∙◌, sym}
 use mathlib.Core.Bool.{false, ◌||◌}
-use Prim.Native.Nat.{◌≤◌, ◌<◌}
 use borrow.Author.Tests.{lt-ltb, le-ltb, eq-eqb, ne_eqb}
 use Rattle.base.specs.Numbers.{first}
 use Rattle.base.specs.Limits.{wrong_side}
 use Rattle.colour.specs.Classify.{answer, refusals, unknown_pixel}
 use Rattle.colour.specs.Setting.{no_setting}
-use Rattle.base.proofs.Tests.{neither}
-use Rattle.base.proofs.Sides.{side}
 use Rattle.colour.proofs.classify.check.Goals as goal
 
 pub returns-then-wrong_side : goal.returns-then-wrong_side
@@ -48,17 +45,6 @@ returns-then-room-n c =
     rw (h, w) in
     let named : no_setting c.args.setting ≡ false = sym c.no_setting.ensures ∙ c.if-no_setting.false in
     rw (sides, named, eq-eqb _ _ c.if-pixels-n.false, lt-ltb _ _ c.if-room-n.true)
-
-pub first_unknown-requires : goal.first_unknown-requires
-first_unknown-requires c =
-    let sides : (wrong_side c.args.height || wrong_side c.args.width) ≡ false =
-    let h : wrong_side c.args.height ≡ false = sym c.wrong_side.ensures ∙ c.if-wrong_side.false in
-    let w : wrong_side c.args.width ≡ false = sym c.wrong_side-2.ensures ∙ c.if-wrong_side-2.false in
-    rw (h, w) in
-    let wide : (0 < c.args.width) × (c.args.width ≤ 1024) =
-    let a = c.args in
-    side a.width (neither (wrong_side a.height) (wrong_side a.width) sides).1 in
-    (c.if-pixels-n.false, wide.0)
 
 pub returns-then-refuses : goal.returns-then-refuses
 unfolding answer refusals unknown_pixel first

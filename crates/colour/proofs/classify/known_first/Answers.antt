@@ -18,11 +18,6 @@ loop-i-preserved-then-end-i c =
     let fs = found c.args.pixels.now in
     (omega arith, goes_on fs c.loop-i.i (sym (ap is_some c.found_in.ensures) ∙ c.if-is_none.ensures) c.loop-i.invariant.1)
 
-pub loop-i-smaller : goal.loop-i-smaller
-loop-i-smaller c =
-    let farther : c.loop-i.i < c.alike-end.result = let d = c.if-end-i.false in omega arith in
-    let h = farther in omega arith
-
 pub loop-i-preserved : goal.loop-i-preserved
 loop-i-preserved c =
     let farther : c.loop-i.i < c.alike-end.result = let d = c.if-end-i.false in omega arith in

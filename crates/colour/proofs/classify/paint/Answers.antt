@@ -1,4 +1,4 @@
-use mathlib.Core.Path.{◌≡◌, ◌∙◌, sym, ap, refl}
+use mathlib.Core.Path.{◌≡◌, ◌∙◌, sym, ap}
 use mathlib.Core.List.{List, map}
 use Prim.Native.Nat.{ℕ, ◌<◌}
 use native.Mathlib.Omega.{arith}
@@ -9,18 +9,6 @@ use Rattle.base.proofs.LentLaws.{write_turn, all_written, map_at}
 use Rattle.colour.proofs.ClassifyLaws.{length_found}
 use Rattle.colour.proofs.StretchLaws.{painted_through}
 use Rattle.colour.proofs.classify.paint.Goals as goal
-
-pub loop-i-init : goal.loop-i-init
-loop-i-init c = (omega arith, (refl, refl))
-
-pub alike-end-requires : goal.alike-end-requires
-alike-end-requires c = (omega arith, c.requires.0)
-
-pub found_in-f-requires : goal.found_in-f-requires
-found_in-f-requires c = ((refl, refl), omega arith)
-
-pub colour_under-requires : goal.colour_under-requires
-colour_under-requires c = tt
 
 pub loop-i-preserved-then-end-i : goal.loop-i-preserved-then-end-i
 loop-i-preserved-then-end-i c =
@@ -40,21 +28,6 @@ loop-i-preserved-then-end-i c =
       ),
     )
 
-pub bounds-colours-i-else-end-i : goal.bounds-colours-i-else-end-i
-bounds-colours-i-else-end-i c =
-    let farther : c.loop-i.i < c.alike-end.result = let d = c.if-end-i.false in omega arith in
-    let h = farther in omega arith
-
-pub fill-requires : goal.fill-requires
-fill-requires c =
-    let farther : c.loop-i.i < c.alike-end.result = let d = c.if-end-i.false in omega arith in
-    let h = farther in (omega arith, omega arith)
-
-pub loop-i-smaller : goal.loop-i-smaller
-loop-i-smaller c =
-    let farther : c.loop-i.i < c.alike-end.result = let d = c.if-end-i.false in omega arith in
-    let h = farther in omega arith
-
 pub loop-i-preserved : goal.loop-i-preserved
 loop-i-preserved c =
     let farther : c.loop-i.i < c.alike-end.result = let d = c.if-end-i.false in omega arith in
@@ -69,9 +42,6 @@ loop-i-preserved c =
             c.args.colours.now l.colours c.requires.0 (omega arith) (omega arith) l.invariant.1.1,
       ),
     )
-
-pub shape_of-colours : goal.shape_of-colours
-shape_of-colours c = c.loop-i.invariant.1.0
 
 pub returns : goal.returns
 unfolding colours_under

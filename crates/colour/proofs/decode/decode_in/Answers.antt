@@ -14,6 +14,3 @@ returns-then-from-gt19 c = rw (le-ltb c.args.from 18 (omega arith))
 pub returns-then-to-gt19 : goal.returns-then-to-gt19
 unfolding decode_of
 returns-then-to-gt19 c = let a = c.args in rw (le-ltb a.to 18 (omega arith), and-false (ltb a.from 18))
-
-pub returns : goal.returns
-returns c = c.requires.entry c.args.from c.args.to (omega arith) (omega arith)

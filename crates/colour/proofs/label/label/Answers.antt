@@ -16,13 +16,6 @@ pub returns-then-refuses : goal.returns-then-refuses
 unfolding answer first
 returns-then-refuses c = record { answers = rw (← c.refuses.ensures, c.if-refuses.true); leaves = refl }
 
-pub put_label-n-requires : goal.put_label-n-requires
-put_label-n-requires c =
-    let right : let a = c.args in Allowed a.colour a.row a.column (length a.out.now) =
-    let a = c.args in
-    allowed a.colour a.row a.column (length a.out.now) (rw (← c.refuses.ensures) c.if-refuses.false) in
-    let k = right in ((k.rows, k.columns), k.roomy)
-
 pub fill-requires : goal.fill-requires
 fill-requires c =
     let right : let a = c.args in Allowed a.colour a.row a.column (length a.out.now) =

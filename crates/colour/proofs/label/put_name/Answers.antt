@@ -4,7 +4,7 @@ use Prim.Native.Nat.{◌/◌}
 use native.Mathlib.Omega.{arith}
 use borrow.Author.Tests.{eq-eqb, ne_eqb}
 use Rattle.colour.specs.Label.{name}
-use Rattle.base.proofs.Over.{put_put, put_length}
+use Rattle.base.proofs.Over.{put_put}
 use Rattle.colour.proofs.LabelLaws.{lightness_length}
 use Rattle.colour.proofs.label.put_name.Goals as goal
 
@@ -15,14 +15,6 @@ returns-then-colour-eq-BLACK c = rw (eq-eqb _ _ c.if-colour-eq-BLACK.true) c.put
 pub returns-then-colour-eq-WHITE : goal.returns-then-colour-eq-WHITE
 unfolding name
 returns-then-colour-eq-WHITE c = rw (ne_eqb _ _ c.if-colour-eq-BLACK.false, eq-eqb _ _ c.if-colour-eq-WHITE.true) c.put_word-then-colour-eq-WHITE.ensures
-
-pub put_hue-requires : goal.put_hue-requires
-put_hue-requires c =
-    let a = c.args in
-    let p = c.put_lightness-at in
-    let l = lightness_length (a.colour / 6) in
-    let n = p.ensures.next in
-    omega (arith, put_length (omega arith) p.ensures)
 
 pub returns : goal.returns
 unfolding name

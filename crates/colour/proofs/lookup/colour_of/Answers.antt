@@ -2,15 +2,11 @@
 -- Assumes nothing.
 use mathlib.Core.Path.{sym}
 use Prim.Native.Nat.{◌%◌, ◌<◌}
-use native.Mathlib.Nat.{mod-lt}
 use native.Mathlib.Omega.{arith}
 use lib.ListN.{get_or}
 use Rattle.colour.specs.Palette.{rgb}
 use Rattle.colour.proofs.LookupLaws.{row_small, likely_known, likely_unknown}
 use Rattle.colour.proofs.lookup.colour_of.Goals as goal
-
-pub bounds-likely-bytes : goal.bounds-likely-bytes
-bounds-likely-bytes c = rw c.requires.1 (mod-lt c.joined-bytes.result (omega arith))
 
 pub bounds-palette-row : goal.bounds-palette-row
 bounds-palette-row c =

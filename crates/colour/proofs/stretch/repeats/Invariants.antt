@@ -1,6 +1,6 @@
 -- `colour::stretch::repeats` meets its contract: it says of the bytes before j whether they stand three places before too.
 -- Assumes nothing.
-use Prim.Native.Nat.{◌*◌, ◌-◌, ◌≤◌}
+use Prim.Native.Nat.{◌*◌}
 use Rattle.base.specs.Decides.{Decides}
 use Rattle.colour.specs.Stretch.{RepeatedBytes}
 use Rattle.colour.proofs.stretch.repeats.Given as goal

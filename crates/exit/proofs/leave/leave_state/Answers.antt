@@ -5,7 +5,7 @@ use native.Mathlib.Omega.{arith}
 use lib.ListN.{length}
 use Rattle.flow.specs.declared.PointerState.{PointerState}
 use Rattle.exit.specs.Keeping.{Kept, kept}
-use Rattle.exit.proofs.KeepingLaws.{kept_none, kept_more, cells_more}
+use Rattle.exit.proofs.KeepingLaws.{kept_more, cells_more}
 use Rattle.exit.proofs.leave.leave_state.Invariants.{Passing}
 use Rattle.exit.proofs.leave.leave_state.Goals as goal
 
@@ -18,19 +18,10 @@ weighed P h e =
       valid = P.valid;
     }
 
-pub loop-i-init : goal.loop-i-init
-loop-i-init c = record { cells = c.requires.0; so_far = kept_none _ _ _ _ _; valid = c.requires.1 }
-
-pub keep-requires : goal.keep-requires
-keep-requires c = (c.loop-i.invariant.cells, c.loop-i-test.true, c.loop-i.invariant.valid)
-
 pub loop-i-preserved : goal.loop-i-preserved
 loop-i-preserved c =
     weighed c.loop-i.invariant c.loop-i-test.true
     c.keep.ensures
-
-pub shape_of-best : goal.shape_of-best
-shape_of-best c = c.loop-i.invariant.so_far.same_length
 
 pub returns : goal.returns
 returns c =

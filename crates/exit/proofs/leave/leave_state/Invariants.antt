@@ -1,7 +1,6 @@
 -- `exit::leave::leave_state` meets its contract. The invariant: the first i codels have been weighed. Assumes nothing.
 use mathlib.Core.List.{List}
-use Prim.Native.Nat.{ℕ, ◌-◌, ◌≤◌}
-use lib.ListN.{length}
+use Prim.Native.Nat.{ℕ}
 use Rattle.flow.specs.Pointer.{Valid}
 use Rattle.flow.specs.declared.PointerState.{PointerState}
 use Rattle.exit.specs.Keeping.{Cells, Kept}

@@ -1,6 +1,6 @@
 -- `exit::leave::leave_states` meets its contract. The invariant: the passes of the first n states are made. Assumes nothing.
 use mathlib.Core.List.{List}
-use Prim.Native.Nat.{ℕ, ◌-◌, ◌≤◌}
+use Prim.Native.Nat.{ℕ}
 use Rattle.exit.specs.LeaveTable.{AllKept}
 use Rattle.exit.specs.Keeping.{Cells}
 use Rattle.exit.proofs.leave.leave_states.Given as goal

@@ -14,12 +14,6 @@ noted-watch-requires c =
     let few = c.args.grid.framed.sound.few in
     (omega (arith, looks_most S, few), omega (arith, next_most S, few))
 
-pub look-requires : goal.look-requires
-look-requires c = c.slide.invariant.place
-
-pub turned-state-requires : goal.turned-state-requires
-turned-state-requires c = c.slide.invariant.valid
-
 pub slide-smaller-in-Shut : goal.slide-smaller-in-Shut
 slide-smaller-in-Shut c =
     let S = c.slide.invariant in

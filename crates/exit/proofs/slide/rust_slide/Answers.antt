@@ -5,12 +5,6 @@ use Rattle.exit.proofs.slide.rust_slide.Goals as goal
 pub slide-init : goal.slide-init
 slide-init c = begins c.requires.0 c.requires.1
 
-pub look-requires : goal.look-requires
-look-requires c = c.slide.invariant.place
-
-pub turned-state-requires : goal.turned-state-requires
-turned-state-requires c = c.slide.invariant.valid
-
 pub slide-smaller-in-Shut : goal.slide-smaller-in-Shut
 slide-smaller-in-Shut c = turns_less c.slide.invariant c.if-turns-eq-LAST_TURN.false c.turned-state.result
 

@@ -1,5 +1,4 @@
 -- `region::explore::expand` meets its contract. The loop's invariant: the ways below `way` are visited (`Spreading`). Assumes nothing.
-use Prim.Native.Nat.{◌-◌, ◌≤◌}
 use Rattle.region.specs.Grid.{grid_at}
 use Rattle.region.specs.Steps.{Spread}
 use Rattle.region.proofs.explore.expand.Given as goal

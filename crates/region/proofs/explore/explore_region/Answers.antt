@@ -1,113 +1,34 @@
+use mathlib.Core.Path.{◌≡◌}
+use mathlib.Core.List.{List}
+use Prim.Native.Nat.{ℕ, ◌<◌}
 use native.Mathlib.Omega.{arith}
-use Rattle.region.specs.Grid.{grid_at}
+use lib.ListN.{get_or}
+use Rattle.picture.specs.declared.grid.CodelGrid.{CodelGrid}
 use Rattle.picture.proofs.Codels.{grid_few}
-use Rattle.region.proofs.GridLaws.{room_kept}
-use Rattle.region.proofs.Filling.{Seeded, flood_start, flood_turn, flood_end, flood_map_length, flood_work_length}
+use Rattle.region.specs.Grid.{grid_at, count}
+use Rattle.region.specs.Room.{Room}
+use Rattle.region.specs.Steps.{unnumbered, Part}
+use Rattle.region.proofs.Filling.{Seeded, flood_start, flood_turn, flood_end}
 use Rattle.region.proofs.explore.explore_region.Goals as goal
 
-pub bounds-map-seed : goal.bounds-map-seed
-bounds-map-seed c =
-    let the-pre = c.requires in
-    omega (arith, the-pre.room.map_room)
-
-pub bounds-work-0 : goal.bounds-work-0
-bounds-work-0 c =
-    let the-pre = c.requires in
-    omega (arith, the-pre.room.work_room)
+-- what the call may rely on
+seeded : (g : CodelGrid) (seed k : ℕ) {m w : List ℕ} → Room g m w → Part (grid_at g) seed k m → seed < count (grid_at g) → get_or m seed 0 ≡ unnumbered
+    → Seeded (grid_at g) seed k m w
+seeded g seed k room part inside free =
+    record { part = part; small = omega (arith, part.few, grid_few g); inside = inside; free = free; long = room.map_room; wide = room.work_room }
 
 pub loop-head-init : goal.loop-head-init
 loop-head-init c =
-    let seeded : Seeded (grid_at c.args.grid) c.args.seed c.args.number c.args.map.now c.args.work.now = record {
-      part = c.requires.part;
-      small = omega (arith, c.requires.part.few, c.requires.seed_bound, grid_few c.args.grid);
-      inside = c.requires.seed_bound;
-      free = c.requires.seed_value;
-      long = c.requires.room.map_room;
-      wide = c.requires.room.work_room;
-    } in
-    flood_start seeded
-
-pub bounds-work-head : goal.bounds-work-head
-bounds-work-head c =
-    let seeded : Seeded (grid_at c.args.grid) c.args.seed c.args.number c.args.map.now c.args.work.now = record {
-      part = c.requires.part;
-      small = omega (arith, c.requires.part.few, c.requires.seed_bound, grid_few c.args.grid);
-      inside = c.requires.seed_bound;
-      free = c.requires.seed_value;
-      long = c.requires.room.map_room;
-      wide = c.requires.room.work_room;
-    } in
-    let the-loop = c.loop-head in
-    let the-pre = c.requires in
-    omega (arith, c.loop-head-test.true, the-loop.invariant.room, flood_work_length seeded the-loop.invariant, the-pre.room.work_room)
-
-pub expand-tail-requires : goal.expand-tail-requires
-expand-tail-requires c =
-    let seeded : Seeded (grid_at c.args.grid) c.args.seed c.args.number c.args.map.now c.args.work.now = record {
-      part = c.requires.part;
-      small = omega (arith, c.requires.part.few, c.requires.seed_bound, grid_few c.args.grid);
-      inside = c.requires.seed_bound;
-      free = c.requires.seed_value;
-      long = c.requires.room.map_room;
-      wide = c.requires.room.work_room;
-    } in
-    let the-pre = c.requires in
-    let the-loop = c.loop-head in
-    let the-loop-test = c.loop-head-test in record { room = room_kept the-pre.room (flood_map_length seeded the-loop.invariant) (flood_work_length seeded the-loop.invariant); tail_bound = the-loop.invariant.room; i_bound = (the-loop.invariant.queue the-loop.head the-loop-test.true).0; number_lt_unnumbered = seeded.small }
-
-pub loop-head-smaller : goal.loop-head-smaller
-loop-head-smaller c =
-    let the-loop-test = c.loop-head-test in
-    let the-loop = c.loop-head in
-    omega (arith, the-loop-test.true, the-loop.invariant.room)
+    let p = c.requires in
+    flood_start (seeded c.args.grid c.args.seed c.args.number p.room p.part p.seed_bound p.seed_value)
 
 pub loop-head-preserved : goal.loop-head-preserved
 loop-head-preserved c =
-    let seeded : Seeded (grid_at c.args.grid) c.args.seed c.args.number c.args.map.now c.args.work.now = record {
-      part = c.requires.part;
-      small = omega (arith, c.requires.part.few, c.requires.seed_bound, grid_few c.args.grid);
-      inside = c.requires.seed_bound;
-      free = c.requires.seed_value;
-      long = c.requires.room.map_room;
-      wide = c.requires.room.work_room;
-    } in
-    let the-loop = c.loop-head in
-    let the-loop-test = c.loop-head-test in
-    let the-expand = c.expand-tail in
-    flood_turn seeded the-loop.invariant the-loop-test.true the-expand.ensures
-
-pub shape_of-map : goal.shape_of-map
-shape_of-map c =
-    let seeded : Seeded (grid_at c.args.grid) c.args.seed c.args.number c.args.map.now c.args.work.now = record {
-      part = c.requires.part;
-      small = omega (arith, c.requires.part.few, c.requires.seed_bound, grid_few c.args.grid);
-      inside = c.requires.seed_bound;
-      free = c.requires.seed_value;
-      long = c.requires.room.map_room;
-      wide = c.requires.room.work_room;
-    } in
-    flood_map_length seeded c.loop-head.invariant
-
-pub shape_of-work : goal.shape_of-work
-shape_of-work c =
-    let seeded : Seeded (grid_at c.args.grid) c.args.seed c.args.number c.args.map.now c.args.work.now = record {
-      part = c.requires.part;
-      small = omega (arith, c.requires.part.few, c.requires.seed_bound, grid_few c.args.grid);
-      inside = c.requires.seed_bound;
-      free = c.requires.seed_value;
-      long = c.requires.room.map_room;
-      wide = c.requires.room.work_room;
-    } in
-    flood_work_length seeded c.loop-head.invariant
+    let p = c.requires in
+    let s = seeded c.args.grid c.args.seed c.args.number p.room p.part p.seed_bound p.seed_value in
+    flood_turn s c.loop-head.invariant c.loop-head-test.true c.expand-tail.ensures
 
 pub returns : goal.returns
 returns c =
-    let seeded : Seeded (grid_at c.args.grid) c.args.seed c.args.number c.args.map.now c.args.work.now = record {
-      part = c.requires.part;
-      small = omega (arith, c.requires.part.few, c.requires.seed_bound, grid_few c.args.grid);
-      inside = c.requires.seed_bound;
-      free = c.requires.seed_value;
-      long = c.requires.room.map_room;
-      wide = c.requires.room.work_room;
-    } in
-    flood_end seeded c.loop-head.invariant c.loop-head-test.false
+    let p = c.requires in
+    flood_end (seeded c.args.grid c.args.seed c.args.number p.room p.part p.seed_bound p.seed_value) c.loop-head.invariant c.loop-head-test.false

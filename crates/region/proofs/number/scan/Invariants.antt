@@ -1,6 +1,5 @@
 -- `region::number::scan` meets its contract. The loop's invariant: the codels before i are numbered (`Numbering`). Assumes nothing.
 use mathlib.Core.Path.{◌≡◌}
-use Prim.Native.Nat.{◌-◌, ◌≤◌}
 use lib.ListN.{length}
 use Rattle.region.specs.Grid.{grid_at}
 use Rattle.region.specs.Steps.{Numbered}

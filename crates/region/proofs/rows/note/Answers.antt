@@ -1,13 +1,6 @@
 -- `region::rows::note` meets its contract: a row of size 0 is begun, another's size is counted up. Assumes nothing.
-use native.Mathlib.Omega.{arith}
-use Rattle.picture.proofs.Codels.{grid_few}
 use Rattle.region.proofs.Tabling.{counted_at, started_at}
 use Rattle.region.proofs.rows.note.Goals as goal
-
-pub row_cell-at-requires : goal.row_cell-at-requires
-row_cell-at-requires c =
-    let the-pre = c.requires in
-    omega (arith, grid_few c.args.grid)
 
 pub returns-then-size-ne0 : goal.returns-then-size-ne0
 returns-then-size-ne0 c =

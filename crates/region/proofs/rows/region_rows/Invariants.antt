@@ -1,5 +1,4 @@
 -- `region::rows::region_rows` meets its contract. The loop's invariant: the codels before i are counted (`Tabling`). Assumes nothing.
-use Prim.Native.Nat.{◌-◌}
 use Rattle.region.specs.Grid.{grid_at}
 use Rattle.region.proofs.Tabling.{Counting}
 use Rattle.region.proofs.rows.region_rows.Given as goal

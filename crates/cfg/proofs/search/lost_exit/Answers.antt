@@ -1,8 +1,0 @@
--- `cfg::search::lost_exit` meets its contract, by the edition. Assumes nothing.
-use Rattle.cfg.proofs.search.lost_exit.Goals as goal
-
-pub returns-in-Rust : goal.returns-in-Rust
-returns-in-Rust c = rw c.in-Rust.is
-
-pub returns-in-Page : goal.returns-in-Page
-returns-in-Page c = rw c.in-Page.is
