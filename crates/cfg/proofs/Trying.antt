@@ -30,7 +30,7 @@ use Rattle.exit.specs.Leaving.{LeavesBy}
 use Rattle.exit.specs.Opens.{Tried}
 use Rattle.picture.proofs.Codels.{inside_of}
 use Rattle.table.specs.ExitNumber.{exit_number}
-use Rattle.cfg.proofs.Queueing.{at_in, region_low, queued, onward_none, onward_more}
+use Rattle.cfg.proofs.Queueing.{queued, onward_none, onward_more}
 
 pub placed : {e : Edition} {p : Picture} {r c : ℕ} {s : PointerState} {w : Way} → Inside p r c → Valid s → Attempt e p r c s w → InGrid p w
 placed i v (shut e) = omega arith
@@ -85,9 +85,6 @@ module _ {e : Edition} {p : Picture} {map : List ℕ} {r k : ℕ} {rows exits wo
   }
 
 -- the exit number of a way, from what the code reads
-pub exit_needs : {p : Picture} {map : List ℕ} → Grounds p map → (a b cols : ℕ) → Inside p a b → cols ≡ cols_of p → (a * cols + b < length map) × (get_or map (a * cols + b) 0 < 65536)
-exit_needs G a b cols i e = rw e (at_in G a b i, omega (arith, region_low G a b i, G.sound.few))
-
 module _ (e : Edition) (p : Picture) (map : List ℕ) (from s x cols : ℕ) (ec : cols ≡ cols_of p) where
   pub step_number : (a b i to : ℕ) → x ≡ exit_number (get_or map (a * cols + b) 0) s i → i ≡ decode_of from to → to ≡ colour_at p a b → x ≡ way_number e p map from s (Step a b)
   unfolding way_number

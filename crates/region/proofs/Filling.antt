@@ -266,9 +266,3 @@ module _ {g : Grid} {seed k : ℕ} {m₀ w₀ : List ℕ} (s : Seeded g seed k m
     map_rest = filling.map_rest;
     work_rest = filling.work_rest ∙ drop-set-lt (count g) w₀ 0 seed (omega (arith, s.inside));
   }
-
-  pub flood_map_length : length m ≡ length m₀
-  flood_map_length = filling.map_length
-
-  pub flood_work_length : length w ≡ length w₀
-  flood_work_length = filling.work_length ∙ length-set w₀ 0 seed

@@ -12,7 +12,7 @@ use native.Mathlib.Omega.{arith}
 use lib.ListN.{length, get_or}
 use Rattle.region.specs.Grid.{Grid, count}
 use Rattle.region.specs.Region.{Joined, here, on, IsMap}
-use Rattle.region.specs.Steps.{unnumbered, Part, Numbered}
+use Rattle.region.specs.Steps.{unnumbered, Part}
 
 pub part_none : {g : Grid} {m : List ℕ} → ((j : ℕ) → j < count g → get_or m j 0 ≡ unnumbered) → Part g 0 0 m
 part_none marked = record {
@@ -38,10 +38,6 @@ part_over {i = i} {m = m} p d = record {
   used = λ r h. let (j, l, e) = p.used r h in (j, omega arith, e);
   order = p.order;
 }
-
-pub numbered_more : {g : Grid} {i k j n : ℕ} {m w m' w' m'' w'' : List ℕ} → Numbered g i k m w m' w' → Numbered g j n m' w' m'' w''
-    → Numbered g j n m w m'' w''
-numbered_more a b = record { part = b.part; map_rest = b.map_rest ∙ a.map_rest; work_rest = b.work_rest ∙ a.work_rest }
 
 -- joined codels have one number
 along : {g : Grid} {i k : ℕ} {m : List ℕ} → Part g i k m → {a b : ℕ} → Joined g a b → get_or m a 0 ≡ get_or m b 0
