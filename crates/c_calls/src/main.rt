@@ -23,6 +23,7 @@
 // Each is called once more with too short an answer, which changes nothing.
 #![tactic(auto)]
 
+use std::fmt::Display;
 use std::io;
 use std::io::{BufWriter, Write};
 
@@ -72,45 +73,20 @@ fn exits() -> [u32; 32] {
     exits
 }
 
-fn print_bytes<W: Write>(out: &mut W, name: &[u8], bytes: &[u8]) -> io::Result<()> {
-    out.write_all(name)?;
-    stored::print_bytes(out, bytes)?;
-    out.write_all(b"\n")
-}
-
-fn print_cells<W: Write>(out: &mut W, name: &[u8], cells: &[u32]) -> io::Result<()> {
-    out.write_all(name)?;
-    stored::print_cells(out, cells)?;
-    out.write_all(b"\n")
-}
-
-fn print_numbers<W: Write>(out: &mut W, name: &[u8], numbers: &[u64]) -> io::Result<()> {
-    out.write_all(name)?;
-    stored::print_numbers(out, numbers)?;
-    out.write_all(b"\n")
-}
-
-// None of the values here is negative, so that each is its own absolute value.
-fn print_values<W: Write>(out: &mut W, name: &[u8], values: &[i64]) -> io::Result<()> {
-    out.write_all(name)?;
-    let mut i = 0;
-    while i < values.len() {
-        stored::print_number(out, word::abs(values[i]))?;
-        i += 1;
-    }
+fn print_named<W: Write, T: Display>(out: &mut W, name: &str, items: &[T]) -> io::Result<()> {
+    write!(out, "{name}")?;
+    stored::print_all(out, items)?;
     out.write_all(b"\n")
 }
 
 fn print_returned<W: Write>(
     out: &mut W,
-    name: &[u8],
+    name: &str,
     number: u32,
     answer: &[u64],
 ) -> io::Result<()> {
-    out.write_all(name)?;
-    stored::print_cell(out, number)?;
-    out.write_all(b"\n")?;
-    print_numbers(out, b"  answer", answer)
+    writeln!(out, "{name} {number}")?;
+    print_named(out, "  answer", answer)
 }
 
 fn print_table<W: Write>(
@@ -120,10 +96,10 @@ fn print_table<W: Write>(
     exits: &[u32],
     work: &[u32],
 ) -> io::Result<()> {
-    print_cells(out, b"  map", map)?;
-    print_cells(out, b"  rows", rows)?;
-    print_cells(out, b"  exits", exits)?;
-    print_cells(out, b"  work", work)
+    print_named(out, "  map", map)?;
+    print_named(out, "  rows", rows)?;
+    print_named(out, "  exits", exits)?;
+    print_named(out, "  work", work)
 }
 
 fn print_room<W: Write>(
@@ -132,24 +108,24 @@ fn print_room<W: Write>(
     kinds: &[u8],
     values: &[i64],
 ) -> io::Result<()> {
-    print_values(out, b"  stack", stack)?;
-    print_bytes(out, b"  kinds", kinds)?;
-    print_values(out, b"  values", values)
+    print_named(out, "  stack", stack)?;
+    print_named(out, "  kinds", kinds)?;
+    print_named(out, "  values", values)
 }
 
 fn classify<W: Write>(out: &mut W, setting: u8, answer: &mut [u64]) -> io::Result<()> {
     let mut colours = [80u8; 16];
     let pixels = pixels();
     let number = piet_c::piet_classify(&pixels, 3, 5, setting, &mut colours, answer);
-    print_returned(out, b"piet_classify", number, answer)?;
-    print_bytes(out, b"  colours", &colours)
+    print_returned(out, "piet_classify", number, answer)?;
+    print_named(out, "  colours", &colours)
 }
 
 fn label<W: Write>(out: &mut W, answer: &mut [u64]) -> io::Result<()> {
     let mut text = [81u8; 24];
     let number = piet_c::piet_label(6, 3, 12, &mut text, answer);
-    print_returned(out, b"piet_label", number, answer)?;
-    print_bytes(out, b"  out", &text)
+    print_returned(out, "piet_label", number, answer)?;
+    print_named(out, "  out", &text)
 }
 
 fn build<W: Write>(out: &mut W, edition: u32, answer: &mut [u64]) -> io::Result<()> {
@@ -160,14 +136,14 @@ fn build<W: Write>(out: &mut W, edition: u32, answer: &mut [u64]) -> io::Result<
     let number = piet_c::piet_build(
         &COLOURS, 3, 5, 2, edition, &mut map, &mut rows, &mut exits, &mut work, answer,
     );
-    print_returned(out, b"piet_build", number, answer)?;
+    print_returned(out, "piet_build", number, answer)?;
     print_table(out, &map, &rows, &exits, &work)
 }
 
 fn forever<W: Write>(out: &mut W, answer: &mut [u64]) -> io::Result<()> {
     let exits = exits();
     let number = piet_c::piet_determine_runs_forever(4, &ROWS, &exits, answer);
-    print_returned(out, b"piet_determine_runs_forever", number, answer)
+    print_returned(out, "piet_determine_runs_forever", number, answer)
 }
 
 fn run<W: Write>(
@@ -194,7 +170,7 @@ fn run<W: Write>(
         &mut values,
         answer,
     );
-    print_returned(out, b"piet_run", number, answer)?;
+    print_returned(out, "piet_run", number, answer)?;
     print_room(out, &stack, &kinds, &values)
 }
 
@@ -220,10 +196,10 @@ fn visits<W: Write>(out: &mut W, edition: u32, limit: u64, answer: &mut [u64]) -
         &mut unvisited,
         answer,
     );
-    print_returned(out, b"piet_visits", number, answer)?;
+    print_returned(out, "piet_visits", number, answer)?;
     print_room(out, &stack, &kinds, &values)?;
-    print_numbers(out, b"  visits", &visits)?;
-    print_cells(out, b"  unvisited", &unvisited)
+    print_named(out, "  visits", &visits)?;
+    print_named(out, "  unvisited", &unvisited)
 }
 
 fn history<W: Write>(
@@ -251,9 +227,9 @@ fn history<W: Write>(
         taken,
         answer,
     );
-    print_returned(out, b"piet_history", number, answer)?;
+    print_returned(out, "piet_history", number, answer)?;
     print_room(out, &stack, &kinds, &values)?;
-    print_cells(out, b"  taken", taken)
+    print_named(out, "  taken", taken)
 }
 
 fn run_picture<W: Write>(
@@ -292,8 +268,8 @@ fn run_picture<W: Write>(
         &mut values,
         answer,
     );
-    print_returned(out, b"piet_run_picture", number, answer)?;
-    print_bytes(out, b"  colours", &colours)?;
+    print_returned(out, "piet_run_picture", number, answer)?;
+    print_named(out, "  colours", &colours)?;
     print_table(out, &map, &rows, &exits, &work)?;
     print_room(out, &stack, &kinds, &values)
 }
@@ -301,16 +277,16 @@ fn run_picture<W: Write>(
 fn read_p6<W: Write>(out: &mut W, file: &[u8], answer: &mut [u64]) -> io::Result<()> {
     let mut pixels = [89u8; 8];
     let number = piet_c::p6::piet_read_p6(file, &mut pixels, answer);
-    print_returned(out, b"piet_read_p6", number, answer)?;
-    print_bytes(out, b"  pixels", &pixels)
+    print_returned(out, "piet_read_p6", number, answer)?;
+    print_named(out, "  pixels", &pixels)
 }
 
 fn write_p6<W: Write>(out: &mut W, height: usize, answer: &mut [u64]) -> io::Result<()> {
     let pixels = pixels();
     let mut file = [79u8; 58];
     let number = piet_c::p6::piet_write_p6(&pixels, height, 5, &mut file, answer);
-    print_returned(out, b"piet_write_p6", number, answer)?;
-    print_bytes(out, b"  file", &file)
+    print_returned(out, "piet_write_p6", number, answer)?;
+    print_named(out, "  file", &file)
 }
 
 // The answers are one cell longer than named, or one shorter.

@@ -6,80 +6,49 @@
 
 use base::edition::Edition;
 use std::io;
-use std::io::{BufWriter, Read, Write};
-use text::input::Taken;
+use std::io::Write;
+use stored::Record;
+use text::input::{Taken, char_in, int_in};
 use text::number::Reason;
 
-fn print_int<W: Write>(out: &mut W, v: i64) -> io::Result<()> {
-    if v < 0 {
-        out.write_all(b"-")?;
-    }
-    let size = word::abs(v);
-    write!(out, "{size}")
-}
-
-fn print_reason<W: Write>(out: &mut W, why: Reason) -> io::Result<()> {
+fn letter(why: Reason) -> char {
     match why {
-        Reason::Ended => {
-            out.write_all(b"e")?;
-        }
-        Reason::Blank => {
-            out.write_all(b"w")?;
-        }
-        Reason::NotNumber => {
-            out.write_all(b"n")?;
-        }
-        Reason::OutOfRange => {
-            out.write_all(b"o")?;
-        }
+        Reason::Ended => 'e',
+        Reason::Blank => 'w',
+        Reason::NotNumber => 'n',
+        Reason::OutOfRange => 'o',
     }
-    Ok(())
 }
 
 // What is taken and the bytes consumed; why a step is skipped only where that is asked for.
 fn print_taken<W: Write>(out: &mut W, t: Taken, asks_why: bool) -> io::Result<()> {
     match t {
-        Taken::Push { value, next } => {
-            print_int(out, value)?;
-            stored::print_number(out, next as u64)?;
-        }
+        Taken::Push { value, next } => write!(out, "{value} {next}"),
         Taken::Skip { next, why } => {
-            if asks_why {
-                print_reason(out, why)?;
-            } else {
-                out.write_all(b"s")?;
-            }
-            stored::print_number(out, next as u64)?;
+            let mark = if asks_why { letter(why) } else { 's' };
+            write!(out, "{mark} {next}")
         }
-        Taken::BadInput => {
-            out.write_all(b"b 0")?;
-        }
+        Taken::BadInput => out.write_all(b"b 0"),
     }
-    Ok(())
 }
 
-fn print_input<W: Write>(out: &mut W, input: &[u8]) -> io::Result<()> {
-    out.write_all(b"c ")?;
-    print_taken(out, text::input::char_in(input, 0, Edition::Rust), false)?;
-    out.write_all(b" i ")?;
-    print_taken(out, text::input::int_in(input, 0), true)?;
-    out.write_all(b"\n")
-}
+// An input, after its length.
+struct Input;
 
-fn print_inputs<W: Write>(out: &mut W, records: &[u8]) -> io::Result<()> {
-    let mut at = 0;
-    while at < records.len() {
-        let end = stored::record_end(records, at + 1, stored::wide(records[at]));
-        print_input(out, &records[at + 1..end])?;
-        at = end;
+impl Record<1> for Input {
+    fn size(length: &[u8; 1], _tail: &[u8]) -> usize {
+        usize::from(length[0])
     }
-    Ok(())
+
+    fn print<W: Write>(out: &mut W, _length: &[u8; 1], input: &[u8]) -> io::Result<()> {
+        out.write_all(b"c ")?;
+        print_taken(out, char_in(input, 0, Edition::Rust), false)?;
+        out.write_all(b" i ")?;
+        print_taken(out, int_in(input, 0), true)?;
+        out.write_all(b"\n")
+    }
 }
 
 fn main(rt: HostRuntime) -> io::Result<()> {
-    let mut records = Vec::new(rt.alloc());
-    rt.stdin().read_to_end(&mut records)?;
-    let mut out = BufWriter::new(rt.alloc(), rt.stdout())?;
-    print_inputs(&mut out, &records)?;
-    out.flush()
+    stored::replay::<Input, 1>(&rt, rt.stdin(), rt.stdout())
 }

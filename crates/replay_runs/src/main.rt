@@ -10,154 +10,97 @@
 ghost use Rattle.std.specs.Prelude.{◌≤◌, length};
 
 use cfg::Built;
+use std::cmp::min;
 use std::io;
-use std::io::{BufWriter, Read, Write};
+use std::io::Write;
+use stored::{Record, area, pair, print_all, print_first};
 
-fn print_signed<W: Write>(out: &mut W, v: i64) -> io::Result<()> {
-    out.write_all(b" ")?;
-    if v < 0 {
-        out.write_all(b"-")?;
-    }
-    let size = word::abs(v);
-    write!(out, "{size}")
+// A table of n regions.
+#[derive(Clone, Copy)]
+struct Table<'a> {
+    n: usize,
+    rows: &'a [u32],
+    exits: &'a [u32],
 }
 
-fn print_answer<W: Write>(out: &mut W, answer: &[u64; 12]) -> io::Result<()> {
-    let numbers = &answer[..];
-    let first = numbers[0];
-    write!(out, "{first}")?;
-    stored::print_numbers(out, &numbers[1..])
+// The run that is asked for, but for the room of its stack and its outputs.
+#[derive(Clone, Copy)]
+struct Run<'a> {
+    edition: u32,
+    limit: u64,
+    abstract_mode: bool,
+    input: &'a [u8],
+}
+
+// The room that is lent to a run.
+#[derive(Drop)]
+struct Room<'a> {
+    stack: &'a mut [i64],
+    kinds: &'a mut [u8],
+    values: &'a mut [i64],
 }
 
 // The first depth values from the last to the first.
-fn print_stack<W: Write>(out: &mut W, stack: &[i64], depth: u64) -> io::Result<()> {
+fn print_stack<W: Write>(out: &mut W, stack: &[i64], depth: usize) -> io::Result<()> {
     out.write_all(b" :")?;
-    let mut i = stack.len();
-    while 0 < i {
-        i -= 1;
-        if (i as u64) < depth {
-            print_signed(out, stack[i])?;
-        }
+    for value in stack[..min(depth, stack.len())].iter().rev() {
+        write!(out, " {value}")?;
     }
     Ok(())
 }
 
-fn print_outputs<W: Write>(
-    out: &mut W,
-    kinds: &[u8],
-    values: &[i64],
-    outputs: u64,
-) -> io::Result<()> {
+fn print_outputs<W: Write>(out: &mut W, room: &Room, outputs: usize) -> io::Result<()> {
     out.write_all(b" :")?;
-    let mut i = 0;
-    while i < kinds.len() {
-        if i < values.len() && (i as u64) < outputs {
-            stored::print_byte(out, kinds[i])?;
-            print_signed(out, values[i])?;
-        }
-        i += 1;
+    let kinds = room.kinds.iter();
+    let values = room.values.iter();
+    for (kind, value) in kinds.zip(values).take(outputs) {
+        write!(out, " {kind} {value}")?;
     }
     Ok(())
 }
 
-fn limit_of(a: u8, b: u8, c: u8, d: u8) -> u64 {
-    a as u64 + 256 * (b as u64 + 256 * (c as u64 + 256 * (d as u64)))
-}
-
-// The run that a question asks for, in the room that it lends.
-fn print_run<W: Write>(
-    out: &mut W,
-    n: usize,
-    rows: &[u32],
-    exits: &[u32],
-    edition: u32,
-    question: &[u8],
-    stack: &mut [i64],
-    kinds: &mut [u8],
-    values: &mut [i64],
-) -> io::Result<()>
-    requires { 9 ≤ length question.now }
-{
+// The run, in the room that is lent.
+fn print_run<W: Write>(out: &mut W, t: &Table, run: &Run, room: &mut Room) -> io::Result<()> {
     let mut answer = [0u64; 12];
-    let limit = limit_of(question[0], question[1], question[2], question[3]);
     let number = piet_c::piet_run(
-        n,
-        rows,
-        exits,
-        edition,
-        limit,
-        question[4] == 1,
-        &question[9..],
-        stack,
-        kinds,
-        values,
+        t.n,
+        t.rows,
+        t.exits,
+        run.edition,
+        run.limit,
+        run.abstract_mode,
+        run.input,
+        room.stack,
+        room.kinds,
+        room.values,
         &mut answer,
     );
     if number != 0 {
-        out.write_all(b"refused")?;
-        stored::print_cell(out, number)?;
-        return Ok(());
+        return write!(out, "refused {number}");
     }
-    print_answer(out, &answer)?;
-    print_stack(out, stack, answer[5])?;
-    print_outputs(out, kinds, values, answer[6])
-}
-
-// The counts of n regions.
-fn print_counts<W: Write>(out: &mut W, visits: &[u64], n: usize) -> io::Result<()> {
-    out.write_all(b" :")?;
-    let mut i = 0;
-    while i < visits.len() {
-        if i < n {
-            stored::print_number(out, visits[i])?;
-        }
-        i += 1;
-    }
-    Ok(())
-}
-
-// The nodes at the beginning of a list.
-fn print_nodes<W: Write>(out: &mut W, nodes: &[u32], count: u64) -> io::Result<()> {
-    out.write_all(b" :")?;
-    let mut i = 0;
-    while i < nodes.len() {
-        if (i as u64) < count {
-            stored::print_cell(out, nodes[i])?;
-        }
-        i += 1;
-    }
-    Ok(())
+    let status = answer[0];
+    write!(out, "{status}")?;
+    print_all(out, &answer[1..])?;
+    print_stack(out, room.stack, answer[5] as usize)?;
+    print_outputs(out, room, answer[6] as usize)
 }
 
 // How often the same run enters each region. A refusal is told by the run's line.
-fn print_visits<W: Write>(
-    out: &mut W,
-    n: usize,
-    rows: &[u32],
-    exits: &[u32],
-    edition: u32,
-    question: &[u8],
-    stack: &mut [i64],
-    kinds: &mut [u8],
-    values: &mut [i64],
-) -> io::Result<()>
-    requires { 9 ≤ length question.now }
-{
+fn print_visits<W: Write>(out: &mut W, t: &Table, run: &Run, room: &mut Room) -> io::Result<()> {
     let mut visits = [0u64; 1024];
     let mut unvisited = [0u32; 1024];
     let mut answer = [0u64; 13];
-    let limit = limit_of(question[0], question[1], question[2], question[3]);
     let number = piet_c::run_visits::piet_visits(
-        n,
-        rows,
-        exits,
-        edition,
-        limit,
-        question[4] == 1,
-        &question[9..],
-        stack,
-        kinds,
-        values,
+        t.n,
+        t.rows,
+        t.exits,
+        run.edition,
+        run.limit,
+        run.abstract_mode,
+        run.input,
+        room.stack,
+        room.kinds,
+        room.values,
         &mut visits,
         &mut unvisited,
         &mut answer,
@@ -165,40 +108,27 @@ fn print_visits<W: Write>(
     if number != 0 {
         return Ok(());
     }
-    out.write_all(b"\nvisits")?;
-    stored::print_number(out, answer[12])?;
-    print_counts(out, &visits, n)?;
-    print_nodes(out, &unvisited, answer[12])
+    let never = answer[12];
+    write!(out, "\nvisits {never}")?;
+    print_first(out, &visits, t.n)?;
+    print_first(out, &unvisited, never as usize)
 }
 
 // The exits that the same run takes, as far as there are cells. A refusal is told by the run's line.
-fn print_history<W: Write>(
-    out: &mut W,
-    n: usize,
-    rows: &[u32],
-    exits: &[u32],
-    edition: u32,
-    question: &[u8],
-    stack: &mut [i64],
-    kinds: &mut [u8],
-    values: &mut [i64],
-) -> io::Result<()>
-    requires { 9 ≤ length question.now }
-{
+fn print_history<W: Write>(out: &mut W, t: &Table, run: &Run, room: &mut Room) -> io::Result<()> {
     let mut taken = [9999u32; 12];
     let mut answer = [0u64; 12];
-    let limit = limit_of(question[0], question[1], question[2], question[3]);
     let number = piet_c::run_history::piet_history(
-        n,
-        rows,
-        exits,
-        edition,
-        limit,
-        question[4] == 1,
-        &question[9..],
-        stack,
-        kinds,
-        values,
+        t.n,
+        t.rows,
+        t.exits,
+        run.edition,
+        run.limit,
+        run.abstract_mode,
+        run.input,
+        room.stack,
+        room.kinds,
+        room.values,
         &mut taken,
         &mut answer,
     );
@@ -206,121 +136,92 @@ fn print_history<W: Write>(
         return Ok(());
     }
     out.write_all(b"\nhistory")?;
-    stored::print_cells(out, &taken)
+    print_all(out, &taken)
 }
 
 // The three lines, in the same room.
 fn print_answers<W: Write>(
     out: &mut W,
-    n: usize,
-    rows: &[u32],
-    exits: &[u32],
-    edition: u32,
-    question: &[u8],
-    stack: &mut [i64],
-    kinds: &mut [u8],
-    values: &mut [i64],
+    t: &Table,
+    run: &Run,
+    depth: usize,
+    outputs: usize,
 ) -> io::Result<()>
-    requires { 9 ≤ length question.now }
-{
-    print_run(out, n, rows, exits, edition, question, stack, kinds, values)?;
-    print_visits(out, n, rows, exits, edition, question, stack, kinds, values)?;
-    print_history(out, n, rows, exits, edition, question, stack, kinds, values)
-}
-
-fn lend_and_run<W: Write>(
-    out: &mut W,
-    n: usize,
-    rows: &[u32],
-    exits: &[u32],
-    edition: u32,
-    question: &[u8],
-) -> io::Result<()>
-    requires { 9 ≤ length question.now }
+    requires { (depth ≤ 255) × (outputs ≤ 255) }
 {
     let mut stack = [0i64; 256];
     let mut kinds = [0u8; 256];
     let mut values = [0i64; 256];
-    let depth = stored::wide(question[5]);
-    let room = stored::wide(question[6]);
-    print_answers(
-        out,
-        n,
-        rows,
-        exits,
-        edition,
-        question,
-        &mut stack[..depth],
-        &mut kinds[..room],
-        &mut values[..room],
-    )
+    let mut room = Room {
+        stack: &mut stack[..depth],
+        kinds: &mut kinds[..outputs],
+        values: &mut values[..outputs],
+    };
+    print_run(out, t, run, &mut room)?;
+    print_visits(out, t, run, &mut room)?;
+    print_history(out, t, run, &mut room)
 }
 
-fn print_question<W: Write>(out: &mut W, picture: &[u8], question: &[u8]) -> io::Result<()> {
-    if picture.len() < 5 {
-        return Ok(());
+// A picture and the run that is asked for: two editions, the height, the width and the codel's width stand before.
+struct Question;
+
+impl Question {
+    // The colours, the run's nine bytes and its input, if they are not cut.
+    fn parts<'a>(head: &[u8; 5], tail: &'a [u8]) -> Option<(&'a [u8], &'a [u8; 9], &'a [u8])> {
+        let (colours, rest) = tail.split_at_checked(area(head[2], head[3]))?;
+        let (asked, input) = rest.split_first_chunk::<9>()?;
+        Some((colours, asked, input))
     }
-    if question.len() < 9 {
-        return Ok(());
-    }
-    let mut map = [0u32; 1024];
-    let mut rows = [0u32; 5120];
-    let mut exits = [0u32; 8192];
-    let mut work = [0u32; 1024];
-    let edition = stored::edition(picture[0]);
-    let height = stored::wide(picture[2]);
-    let width = stored::wide(picture[3]);
-    let codel = stored::wide(picture[4]);
-    let built = cfg::build(
-        &picture[5..],
-        height,
-        width,
-        codel,
-        edition,
-        &mut map,
-        &mut rows,
-        &mut exits,
-        &mut work,
-    );
-    match built {
-        Built::Done { regions } => {
-            let running = stored::edition(picture[1]);
-            lend_and_run(out, regions, &rows, &exits, running, question)?;
+}
+
+impl Record<5> for Question {
+    fn size(head: &[u8; 5], tail: &[u8]) -> usize {
+        match Question::parts(head, tail) {
+            Some((_, asked, _)) => area(head[2], head[3]) + 9 + pair(asked[7], asked[8]),
+            None => tail.len(),
         }
-        _ => {
+    }
+
+    fn print<W: Write>(out: &mut W, head: &[u8; 5], body: &[u8]) -> io::Result<()> {
+        let Some((colours, asked, input)) = Question::parts(head, body) else {
+            return Ok(());
+        };
+        let mut map = [0u32; 1024];
+        let mut rows = [0u32; 5120];
+        let mut exits = [0u32; 8192];
+        let mut work = [0u32; 1024];
+        let [building, running, height, width, codel] = *head;
+        let built = cfg::build(
+            colours,
+            usize::from(height),
+            usize::from(width),
+            usize::from(codel),
+            u32::from(building),
+            &mut map,
+            &mut rows,
+            &mut exits,
+            &mut work,
+        );
+        if let Built::Done { regions } = built {
+            let t = Table {
+                n: regions,
+                rows: &rows,
+                exits: &exits,
+            };
+            let run = Run {
+                edition: u32::from(running),
+                limit: u64::from(u32::from_le_bytes([asked[0], asked[1], asked[2], asked[3]])),
+                abstract_mode: asked[4] == 1,
+                input,
+            };
+            print_answers(out, &t, &run, usize::from(asked[5]), usize::from(asked[6]))?;
+        } else {
             out.write_all(b"refused")?;
         }
+        out.write_all(b"\n")
     }
-    out.write_all(b"\n")
-}
-
-// Where the question that begins at an index ends; a cut one ends with the records.
-fn question_end(records: &[u8], at: usize) -> usize
-    requires { at ≤ length records.now }
-    ensures above { at ≤ result }
-    ensures within { result ≤ length records.now }
-{
-    if records.len() - at < 9 {
-        return records.len();
-    }
-    stored::record_end(records, at + 9, stored::pair_at(records, at + 7))
-}
-
-fn print_records<W: Write>(out: &mut W, records: &[u8]) -> io::Result<()> {
-    let mut at = 0;
-    while at < records.len() {
-        let middle = stored::picture_end(records, at, 2);
-        let end = question_end(records, middle);
-        print_question(out, &records[at..middle], &records[middle..end])?;
-        at = end;
-    }
-    Ok(())
 }
 
 fn main(rt: HostRuntime) -> io::Result<()> {
-    let mut records = Vec::new(rt.alloc());
-    rt.stdin().read_to_end(&mut records)?;
-    let mut out = BufWriter::new(rt.alloc(), rt.stdout())?;
-    print_records(&mut out, &records)?;
-    out.flush()
+    stored::replay::<Question, 5>(&rt, rt.stdin(), rt.stdout())
 }

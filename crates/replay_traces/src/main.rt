@@ -4,7 +4,8 @@
 #![tactic(auto)]
 
 use std::io;
-use std::io::{BufWriter, Read, Write};
+use std::io::Write;
+use stored::Record;
 
 fn print_trace<W: Write>(out: &mut W, job: &[u8]) -> io::Result<()> {
     let mut text = [0u8; 524288];
@@ -20,25 +21,20 @@ fn print_counts<W: Write>(out: &mut W, job: &[u8]) -> io::Result<()> {
     out.write_all(b"--\n")
 }
 
-fn print_job<W: Write>(out: &mut W, job: &[u8]) -> io::Result<()> {
-    print_trace(out, job)?;
-    print_counts(out, job)
-}
+// A job, after its length.
+struct Job;
 
-fn print_jobs<W: Write>(out: &mut W, records: &[u8]) -> io::Result<()> {
-    let mut at = 0;
-    while 2 <= records.len() - at {
-        let end = stored::record_end(records, at + 2, stored::pair_at(records, at));
-        print_job(out, &records[at + 2..end])?;
-        at = end;
+impl Record<2> for Job {
+    fn size(length: &[u8; 2], _tail: &[u8]) -> usize {
+        stored::pair(length[0], length[1])
     }
-    Ok(())
+
+    fn print<W: Write>(out: &mut W, _length: &[u8; 2], job: &[u8]) -> io::Result<()> {
+        print_trace(out, job)?;
+        print_counts(out, job)
+    }
 }
 
 fn main(rt: HostRuntime) -> io::Result<()> {
-    let mut records = Vec::new(rt.alloc());
-    rt.stdin().read_to_end(&mut records)?;
-    let mut out = BufWriter::new(rt.alloc(), rt.stdout())?;
-    print_jobs(&mut out, &records)?;
-    out.flush()
+    stored::replay::<Job, 2>(&rt, rt.stdin(), rt.stdout())
 }
