@@ -4,7 +4,10 @@ use mathlib.Core.List.{List, [], ◌∷◌}
 use Prim.Native.Nat.{ℕ, suc, ◌+◌, ◌≤◌}
 use native.Mathlib.Omega.{arith}
 use lib.ListN.{length, drop, length-append}
+use Rattle.std.specs.Prelude.{Err}
+use Rattle.base.specs.declared.refusal.Refusal.{Refusal}
 use Rattle.base.specs.Numbers.{numbers}
+use Rattle.base.specs.Refusal.{number_of_refusal}
 use Rattle.base.specs.Lent.{Put, lent}
 use Rattle.base.proofs.Over.{over_zero}
 use Rattle.base.proofs.Refusals as refusing
@@ -16,8 +19,10 @@ use Rattle.piet.specs.declared.run_picture.Pictured.TheVariants.{Finished, Refus
 use Rattle.piet.specs.RunPicture.{Asked, Lends, RanPicture}
 use Rattle.piet.specs.RunPicture as running
 use Rattle.job.specs.Encoding.{Content, IsJob}
+use Rattle.job.specs.Outcome as reading
+use Rattle.job.proofs.Only.{refused_none}
 use Rattle.report.specs.Text.{refusal_text}
-use Rattle.answer.specs.Program.{asked_of, refusal_of, Answers, refused, ran, Prints, Printed, short, printed}
+use Rattle.answer.specs.Program.{asked_of, refusal_of, Answers, no_job, refused, ran, Prints, Printed, short, printed}
 use Rattle.answer.specs.Answer.{Result}
 use Rattle.answer.specs.Printing.{lines_of, Printable}
 use Rattle.answer.proofs.Ending.{Sized, same_refusal, labelled, printable, lines_are, ran_so}
@@ -32,6 +37,13 @@ prints {before = before} {text = text} a p = record {
   size = omega (arith, p.next);
   list = p.list ∙ over_zero before text;
 }
+
+-- the line of a refusal, where there is no job
+pub prints_none : {Shows : Content → List ℕ → Type 0} {job before after : List ℕ} {e : Refusal} {n r : ℕ} → reading.Outcome job (Err e)
+    → n ≡ number_of_refusal e → Put before 0 (refusal_text n) r after → Prints Shows job before r after
+prints_none o m p =
+    let (is, none) = refused_none o in
+    prints (no_job none) (rw (m, is) at p)
 
 -- a run that finished
 pub record Finish (a : Asked) (l l' : Lends) (x : Ended) (n : ℕ) : Type 0 where

@@ -1,8 +1,10 @@
 -- What a program prints that is given a job, whatever it shows of the run (rules 13.3, 13.4, 13.6). Assumes nothing.
 use Rattle.std.specs.Prelude.{◌≡◌, List, [], ◌∷◌, ℕ, suc, ◌*◌, ◌/◌, ◌%◌, ◌<◌, ◌≤◌, length}
+use Rattle.base.specs.declared.refusal.Refusal.TheVariants as refusal
 use Rattle.base.specs.Edition.{rust_number}
 use Rattle.base.specs.Lent.{lent}
-use Rattle.base.specs.Numbers.{Numbers, numbers, number_of}
+use Rattle.base.specs.Numbers.{Numbers, numbers}
+use Rattle.base.specs.Refusal.{number_of_refusal}
 use Rattle.colour.specs.Label.{label_of}
 use Rattle.colour.specs.Setting.{refusing}
 use Rattle.picture.specs.Picture.{Picture, cols_of, codels, codel_colour}
@@ -13,9 +15,8 @@ use Rattle.machine.specs.Machine.{asks, given_of, RunRoom}
 use Rattle.machine.specs.Place.{End}
 use Rattle.piet.specs.Follows.{Follows}
 use Rattle.piet.specs.RunPicture.{Asked, asked, asked_picture, refusal}
-use Rattle.job.specs.declared.Job.TheVariants.{Refused}
 use Rattle.job.specs.Encoding.{Content, IsJob}
-use Rattle.job.specs.Outcome as reading
+use Rattle.job.specs.Outcome.{NoJob}
 use Rattle.report.specs.Text.{refusal_text}
 
 -- what a job asks of a run: unknown pixels refused, in edition 1 (rules 13.4, 16.7)
@@ -49,7 +50,7 @@ module _ (Shows : Content → List ℕ → Type 0) where
   -- the text that is printed for a list of bytes
   pub data Answers (job : List ℕ) : List ℕ → Type 0 where
     -- no job: 11, before all other refusals (rule 13.3)
-    no_job : ((c : Content) → IsJob job c → ⊥) → Answers job (refusal_text (number_of (reading.numbered Refused)))
+    no_job : NoJob job → Answers job (refusal_text (number_of_refusal refusal.Job))
     -- a refused job (rule 13.6)
     refused : (c : Content) → IsJob job c → (k : ℕ) (v : List ℕ) → refusal_of c ≡ numbers (suc k) v → Answers job (refusal_text (suc k))
     ran : (c : Content) → IsJob job c → refusal_of c ≡ numbers 0 (0 ∷ 0 ∷ []) → {text : List ℕ} → Shows c text → Answers job text

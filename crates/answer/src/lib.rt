@@ -15,7 +15,7 @@ use base::edition::RUST_EDITION;
 use colour::label::Labelled;
 use colour::setting::REFUSE_UNKNOWN;
 use interpreter::Ended;
-use job::{Job, Parts};
+use job::Parts;
 use piet::run_picture::{Pictured, run_picture};
 use report::{Figures, put_refusal, put_result};
 use table::{Field, row_cell};
@@ -159,8 +159,8 @@ pub fn answer(job: &[u8], out: &mut [u8]) -> usize
     if out.len() < ROOM {
         return 0;
     }
-    let Job::Accepted(p) = job::read_job(job) else {
-        return put_refusal(out, 11);
-    };
-    run_job(job, out, p)
+    match job::read_job(job) {
+        Ok(p) => run_job(job, out, p),
+        Err(refusal) => put_refusal(out, refusal.number() as u64),
+    }
 }

@@ -13,7 +13,7 @@ ghost use Rattle.shade.specs.Counted.{still, cells_text, Printable, PrintablePic
 use answer::run_parts;
 use base::edition::RUST_EDITION;
 use base::put::{put_number, put_word};
-use job::{Job, Parts};
+use job::Parts;
 use picture::shape::shape_of;
 use piet::run_picture::Pictured;
 use report::put_refusal;
@@ -161,8 +161,8 @@ pub fn shade(job: &[u8], out: &mut [u8]) -> usize
     if out.len() < ROOM {
         return 0;
     }
-    let Job::Accepted(p) = job::read_job(job) else {
-        return put_refusal(out, 11);
-    };
-    shade_job(job, out, p)
+    match job::read_job(job) {
+        Ok(p) => shade_job(job, out, p),
+        Err(refusal) => put_refusal(out, refusal.number() as u64),
+    }
 }

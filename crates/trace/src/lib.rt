@@ -19,7 +19,7 @@ ghost use Rattle.trace.specs.Told.{Goes, Steps, Tellable, Tells, Endable, Ends};
 use answer::{label_region, run_parts};
 use base::edition::Edition;
 use interpreter::{Ended, Moved, State, begin, step};
-use job::{Job, Parts};
+use job::Parts;
 use machine::{Terms, op_numbered};
 use piet::run_picture::Pictured;
 use report::put_refusal;
@@ -278,8 +278,8 @@ pub fn trace(job: &[u8], out: &mut [u8]) -> usize
     if out.len() < ROOM {
         return 0;
     }
-    let Job::Accepted(p) = job::read_job(job) else {
-        return put_refusal(out, 11);
-    };
-    trace_job(job, out, p)
+    match job::read_job(job) {
+        Ok(p) => trace_job(job, out, p),
+        Err(refusal) => put_refusal(out, refusal.number() as u64),
+    }
 }

@@ -33,11 +33,3 @@ loop-i-preserved c =
     let s : a.k - i + 1 ≡ a.k - (i - 1) = omega arith in
     let f = subst (λ (m : ℕ). Field a.job.now m (a.k - i) c.loop-i.n) e c.loop-i.invariant.1 in
     (omega arith, rw s at (field_more a.job.now p (a.k - i) c.loop-i.n (omega arith) byte f))
-
-pub returns : goal.returns
-returns c =
-    let a = c.args in
-    let i = c.loop-i.i in
-    let e : a.at + i ≡ a.at = omega arith in
-    let s : a.k - i ≡ a.k = omega arith in
-    rw (e, s) at c.loop-i.invariant.1
