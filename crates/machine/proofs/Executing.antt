@@ -15,8 +15,6 @@ use Rattle.text.specs.declared.input.Taken.{Taken}
 use Rattle.text.specs.declared.input.Taken.TheVariants as Line
 use Rattle.text.specs.Input.{Next}
 use Rattle.text.specs.Reading.{take_of}
-use Rattle.stack.specs.declared.Grown.{Grown}
-use Rattle.stack.specs.declared.Grown.TheVariants as Grow
 use Rattle.stack.specs.Stack.{stack_of, Does, Grows}
 use Rattle.stack.specs.Instr as Instr
 use Rattle.stack.proofs.Cells.{stack_of_length, one, pop_le}
@@ -74,12 +72,12 @@ module _ (stack : List ℤ) (kinds : List ℕ) (values : List ℤ) (at : Core) w
         (record { lies = q.lies; holds = s.holds; valid = s.valid }) n refl refl
         (ap (λ (t : List ℤ). does (with_stack t (store_of (slices stack kinds values) at))) (sym q.is))
 
-    pub grown : (f : List ℤ → List ℤ) (stack' : List ℤ) (g : Grown) → Grows f stack at.depth stack' g
+    pub grown : (f : List ℤ → List ℤ) (stack' : List ℤ) (g : Option ℕ) → Grows f stack at.depth stack' g
         → length stack' ≡ length stack
         → Execs (on_stack f) (slices stack kinds values) at (slices stack' kinds values) (grown_of at g)
     unfolding Grows grown_of out_of fitting After
-    grown f stack' (Grow.To d') q n = stack_kept f stack' d' q n
-    grown f stack' Grow.Full q n = record {
+    grown f stack' (Some d') q n = stack_kept f stack' d' q n
+    grown f stack' None q n = record {
       is = rw (lt-ltb (length stack) (length (f (stack_of stack at.depth))) q.full) refl;
       leaves = ap (λ (t : List ℤ). slices t kinds values) q.same;
     }
@@ -130,15 +128,15 @@ module _ (stack : List ℤ) (kinds : List ℕ) (values : List ℤ) (at : Core) w
     }
 
     -- what is taken of a line is gone
-    pub pushed : (v : ℤ) (n : ℕ) (stack' : List ℤ) (g : Grown) → Grows (Instr.push v) stack at.depth stack' g
+    pub pushed : (v : ℤ) (n : ℕ) (stack' : List ℤ) (g : Option ℕ) → Grows (Instr.push v) stack at.depth stack' g
         → length stack' ≡ length stack
         → Execs (take (Line.Push v n)) (slices stack kinds values) at (slices stack' kinds values) (grown_of (at_used n at) g)
     unfolding Grows take grown_of out_of fitting After
-    pushed v n stack' (Grow.To d') q l =
+    pushed v n stack' (Some d') q l =
         kept (take (Line.Push v n)) stack' kinds values (at_depth d' (at_used n at))
         (record { lies = q.lies; holds = s.holds; valid = s.valid }) l refl refl
         (ap (λ (t : List ℤ). does (with_used n (with_stack t (store_of (slices stack kinds values) at)))) (sym q.is))
-    pushed v n stack' Grow.Full q l = record {
+    pushed v n stack' None q l = record {
       is = rw (lt-ltb (length stack) (length (Instr.push v (stack_of stack at.depth))) q.full) refl;
       leaves = ap (λ (t : List ℤ). slices t kinds values) q.same;
     }

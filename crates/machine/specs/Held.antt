@@ -2,8 +2,6 @@
 use Rattle.std.specs.Prelude.{◌≡◌, List, ℕ, min, length, ℤ, Option, Some, None, Result, Ok, Err}
 use Rattle.flow.specs.declared.PointerState.{PointerState}
 use Rattle.flow.specs.Pointer.{Valid}
-use Rattle.stack.specs.declared.Grown.{Grown}
-use Rattle.stack.specs.declared.Grown.TheVariants as Grow
 use Rattle.stack.specs.Stack.{stack_of, Lies}
 use Rattle.machine.specs.declared.Core.{Core}
 use Rattle.machine.specs.declared.Reading.{Reading}
@@ -84,9 +82,9 @@ abbrev pub at_skips : Skips → Core → Core
 at_skips s at = at_reading (skips_to s at.reading) at
 
 -- the answer of an instruction that may need a cell more, and of one that may emit
-unfoldable pub grown_of : Core → Grown → Result Core Stop
-grown_of at (Grow.To d) = Ok (at_depth d at)
-grown_of at Grow.Full = Err StackFull
+unfoldable pub grown_of : Core → Option ℕ → Result Core Stop
+grown_of at (Some d) = Ok (at_depth d at)
+grown_of at None = Err StackFull
 
 unfoldable pub wrote_of : Core → Option (ℕ × ℕ) → Result Core Stop
 wrote_of at (Some (d, n)) = Ok (at_outputs n (at_depth d at))

@@ -13,7 +13,7 @@ ghost use Rattle.machine.specs.Held.{slices, Stands, Execs, StackExecs, at_used,
 
 use base::edition::Edition;
 use flow::PointerState;
-use stack::{Grown, Pairing};
+use stack::Pairing;
 use text::input::Taken;
 use text::number::Reason;
 
@@ -205,12 +205,12 @@ pub fn op_numbered(n: u32) -> Op
 }
 
 // The answer of an instruction that may need a cell more.
-fn after_growth(at: Core, grown: Grown) -> Result<Core, Stop>
+fn after_growth(at: Core, grown: Option<usize>) -> Result<Core, Stop>
     ensures { result ≡ grown_of at grown }
 {
     match grown {
-        Grown::To(depth) => Ok(Core { depth, ..at }),
-        Grown::Full => Err(Stop::StackFull),
+        Some(depth) => Ok(Core { depth, ..at }),
+        None => Err(Stop::StackFull),
     }
 }
 

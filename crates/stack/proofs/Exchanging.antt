@@ -1,7 +1,7 @@
 -- Exchanges from both ends inward mirror a part, and three such parts turn the top of a stack. Assumes nothing.
 use mathlib.Core.Path.{◌≡◌, refl, sym, ap, ◌∙◌}
 use mathlib.Core.List.{List, [], ◌∷◌, ◌++◌}
-use Prim.Native.Nat.{ℕ, zero, suc, ◌+◌, ◌-◌, ◌/◌, ◌<◌, ◌≤◌}
+use Prim.Native.Nat.{ℕ, zero, suc, ◌+◌, ◌-◌, ◌/◌, ◌≤◌}
 use native.Mathlib.Omega.{arith}
 use native.Mathlib.Numerals.{add-one}
 use lib.ListN.{length, length-set}
@@ -11,22 +11,6 @@ use Rattle.stack.specs.Instr as Instr
 use Rattle.stack.specs.Exchange.{Exchanges, exchange, exchanged, inward, reversal, three_reversals}
 use Rattle.stack.proofs.Mirror.{mirrored, mirror_step, mirror_end}
 use Rattle.stack.proofs.Turning.{turns_at}
-
--- one pair more, as the code counts
-pub reversal_step : (i j : ℕ) → i + 1 < j → reversal i j ≡ (i, j - 1) ∷ reversal (i + 1) (j - 1)
-unfolding inward
-reversal_step i j h = rw (more i j h, add-one i) refl
-  where
-    more : (i j : ℕ) → i + 1 < j → (j - i) / 2 ≡ suc ((j - 1 - (i + 1)) / 2)
-    more i j h = omega arith
-
--- no pair is left
-pub reversal_end : (i j : ℕ) → j ≤ i + 1 → reversal i j ≡ []
-unfolding inward
-reversal_end i j h = rw (none i j h) refl
-  where
-    none : (i j : ℕ) → j ≤ i + 1 → (j - i) / 2 ≡ 0
-    none i j h = omega arith
 
 pub length_exchanged : (ps : Exchanges) (c : List ℤ) → length (exchanged ps c) ≡ length c
 unfolding exchanged exchange
@@ -47,7 +31,7 @@ reverses (suc m) lo hi c e h l =
     ∙ reverses m (lo + 1) (hi - 1) (exchange lo (hi - 1) c) (omega arith) (omega arith) (simp length-set (omega arith))
     ∙ mirror_step c lo hi (omega arith) l
 
-reversed : (lo hi : ℕ) (c : List ℤ) → lo ≤ hi → hi ≤ length c → exchanged (reversal lo hi) c ≡ mirrored lo hi c
+pub reversed : (lo hi : ℕ) (c : List ℤ) → lo ≤ hi → hi ≤ length c → exchanged (reversal lo hi) c ≡ mirrored lo hi c
 reversed lo hi c h l = reverses ((hi - lo) / 2) lo hi c refl h l
 
 -- the three reversals one after the other, as the code makes them

@@ -9,8 +9,7 @@ use native.Mathlib.Omega.{arith}
 use lib.ListN.{length}
 use lib.IntN.{ℤ}
 use Rattle.stack.specs.Stack.{Does, Overflows, Grows}
-use Rattle.stack.specs.declared.Grown.{Grown}
-use Rattle.stack.specs.declared.Grown.TheVariants.{To, Full}
+use Rattle.std.specs.Prelude.{Option, Some, None}
 use Rattle.stack.proofs.Cells.{depth_is}
 use Rattle.stack.proofs.Unique.{unique}
 
@@ -23,9 +22,9 @@ module _ (f : List ℤ → List ℤ) (cells : List ℤ) (d : ℕ) (cells' cells'
   fits : (c : List ℤ) (r : ℕ) → length c ≡ length cells → Does f cells d c r → (c' : List ℤ) → Overflows f cells d c' → ⊥
   fits c r e p c' o = omega (arith, depth_is p, p.lies.room, o.full)
 
-  pub grows_only : (r r' : Grown) → Grows f cells d cells' r → Grows f cells d cells'' r' → (r ≡ r') × (cells' ≡ cells'')
+  pub grows_only : (r r' : Option ℕ) → Grows f cells d cells' r → Grows f cells d cells'' r' → (r ≡ r') × (cells' ≡ cells'')
   unfolding Grows
-  grows_only (To r) (To r') p q = let e = does_only r r' p q in (ap To e.0, e.1)
-  grows_only (To r) Full p q = absurd (fits cells' r n p cells'' q)
-  grows_only Full (To r) p q = absurd (fits cells'' r m q cells' p)
-  grows_only Full Full p q = (refl, p.same ∙ sym q.same)
+  grows_only (Some r) (Some r') p q = let e = does_only r r' p q in (ap Some e.0, e.1)
+  grows_only (Some r) None p q = absurd (fits cells' r n p cells'' q)
+  grows_only None (Some r) p q = absurd (fits cells'' r m q cells' p)
+  grows_only None None p q = (refl, p.same ∙ sym q.same)

@@ -1,7 +1,5 @@
 -- A stack in a lent slice of cells: cell 0 is the bottom, and the cells past the depth are 0 (rule 8.6). Assumes nothing.
-use Rattle.std.specs.Prelude.{◌≡◌, List, [], ◌∷◌, ℕ, zero, suc, ◌<◌, ◌≤◌, length, get_or, ℤ, pos}
-use Rattle.stack.specs.declared.Grown.{Grown}
-use Rattle.stack.specs.declared.Grown.TheVariants.{To, Full}
+use Rattle.std.specs.Prelude.{Option, Some, None, ◌≡◌, List, [], ◌∷◌, ℕ, zero, suc, ◌<◌, ◌≤◌, length, get_or, ℤ, pos}
 
 -- the first d cells, top first
 unfoldable pub stack_of : List ℤ → ℕ → List ℤ
@@ -23,7 +21,7 @@ pub record Overflows (f : List ℤ → List ℤ) (cells : List ℤ) (d : ℕ) (c
   pub same : cells' ≡ cells
   pub full : length cells < length (f (stack_of cells d))
 
--- a call that does f to the stack where there is room
-unfoldable pub Grows : (List ℤ → List ℤ) → List ℤ → ℕ → List ℤ → Grown → Type 0
-Grows f cells d cells' (To d') = Does f cells d cells' d'
-Grows f cells d cells' Full = Overflows f cells d cells'
+-- a call that does f to the stack where there is room, and gives the depth
+unfoldable pub Grows : (List ℤ → List ℤ) → List ℤ → ℕ → List ℤ → Option ℕ → Type 0
+Grows f cells d cells' (Some d') = Does f cells d cells' d'
+Grows f cells d cells' None = Overflows f cells d cells'

@@ -90,10 +90,7 @@ pub enum Pairing {
 fn above(b: i64, a: i64) -> i64
     ensures { result ≡ Instr.bit (lt_z a b) }
 {
-    if b > a {
-        return 1;
-    }
-    0
+    i64::from(b > a)
 }
 
 // What op gives of b and a: a value, or nothing.
@@ -135,10 +132,7 @@ pub fn not(stack: &mut [i64], depth: usize) -> usize
         return depth;
     }
     let a = stack[depth - 1];
-    if a == 0 {
-        return put(stack, depth, 1);
-    }
-    put(stack, depth, 0)
+    put(stack, depth, i64::from(a == 0))
 }
 
 // The top once more, where there is room for it.
@@ -154,21 +148,13 @@ fn dup(stack: &mut [i64], depth: usize) -> usize
     push(stack, depth, a)
 }
 
-// The cells from lo up to hi in the opposite order, by exchanges from both ends inward: each cell is written at most once.
+// The cells from lo up to hi in the opposite order. The library exchanges them from both ends inward: each cell is written at
+// most once.
 fn reverse(s: &mut [i64], lo: usize, hi: usize)
     requires { (lo ≤ hi) × (hi ≤ length s.old) }
     ensures { s.new ≡ exchanged (reversal lo hi) s.old }
 {
-    let mut i = lo;
-    let mut j = hi;
-    while i + 1 < j {
-        j -= 1;
-        let x = s[i];
-        let y = s[j];
-        s[i] = y;
-        s[j] = x;
-        i += 1;
-    }
+    s[lo..hi].reverse();
 }
 
 // The top n values turned by k places: the k uppermost go below the others. Three reversals write each cell at most twice,
@@ -187,11 +173,7 @@ fn turn(stack: &mut [i64], depth: usize, n: usize, k: usize)
 fn bad_depth(n: i64, d: usize) -> bool
     ensures { result ≡ Instr.bad_depth n d }
 {
-    if n < 0 {
-        return true;
-    }
-    let m = n as usize;
-    d < m
+    n < 0 || d < n as usize
 }
 
 // Roll: a on top of the depth n. Where n is bad the edition says what becomes of the two; else both are gone. a is taken
@@ -218,34 +200,27 @@ pub fn roll(stack: &mut [i64], depth: usize, edition: Edition) -> usize
     d
 }
 
-// What an instruction that may need one cell more comes to: the depth, or no room for it.
-#[derive(Clone, Copy)]
-pub enum Grown {
-    To(usize),
-    Full,
-}
-
-// Push: v on top.
-pub fn grow(stack: &mut [i64], depth: usize, v: i64) -> Grown
+// Push: v on top, with the depth after it, or nothing where there is no room.
+pub fn grow(stack: &mut [i64], depth: usize, v: i64) -> Option<usize>
     requires { Lies stack.old depth }
     ensures { Grows (Instr.push v) stack.old depth stack.new result }
 {
     if depth == stack.len() {
-        return Grown::Full;
+        return None;
     }
-    Grown::To(push(stack, depth, v))
+    Some(push(stack, depth, v))
 }
 
-// Dup: the top once more. An empty stack needs no room, even in an empty slice.
-pub fn double(stack: &mut [i64], depth: usize) -> Grown
+// Dup: the top once more, likewise. An empty stack needs no room, even in an empty slice.
+pub fn double(stack: &mut [i64], depth: usize) -> Option<usize>
     requires { Lies stack.old depth }
     ensures { Grows Instr.dup stack.old depth stack.new result }
 {
     if depth == 0 {
-        return Grown::To(depth);
+        return Some(depth);
     }
     if depth == stack.len() {
-        return Grown::Full;
+        return None;
     }
-    Grown::To(dup(stack, depth))
+    Some(dup(stack, depth))
 }

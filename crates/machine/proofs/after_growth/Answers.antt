@@ -3,10 +3,10 @@ use mathlib.Core.Path.{refl}
 use Rattle.machine.specs.Held.{grown_of}
 use Rattle.machine.proofs.after_growth.Goals as goal
 
-pub returns-in-To : goal.returns-in-To
+pub returns-in-Some : goal.returns-in-Some
 unfolding grown_of
-returns-in-To c = rw c.in-To.is refl
+returns-in-Some c = rw c.in-Some.is refl
 
-pub returns-in-Full : goal.returns-in-Full
+pub returns-in-None : goal.returns-in-None
 unfolding grown_of
-returns-in-Full c = rw c.in-Full.is refl
+returns-in-None c = rw c.in-None.is refl

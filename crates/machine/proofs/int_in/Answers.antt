@@ -13,10 +13,6 @@ returns-then-terms c =
     (waits c.args.stack.now kinds values c.args.at (record { lies = c.requires.lies; holds = h; valid = c.requires.valid }) int_of whole_line take_number
     (given c.args.terms c.args.input.now) c.if-terms.true)
 
-pub take-requires : goal.take-requires
-take-requires c =
-    rw c.at_skips.ensures (record { lies = c.requires.lies; valid = c.requires.valid })
-
 pub returns : goal.returns
 returns c =
     let t = c.int_in-taken in

@@ -1,5 +1,5 @@
 -- `stack::bad_depth` meets its contract, by the sign of n. Assumes nothing.
-use mathlib.Core.Path.{◌≡◌, refl}
+use mathlib.Core.Path.{◌≡◌, refl, ◌∙◌}
 use mathlib.Core.Bool.{true}
 use Prim.Native.Nat.{ℕ}
 use lib.Dec.{ltb}
@@ -18,9 +18,9 @@ unfolding bad_depth
 compared d (nonneg n h) = refl
 
 pub returns-then-n-lt0 : goal.returns-then-n-lt0
-returns-then-n-lt0 c = below c.args.d (is_neg _ c.ranges.n c.if-n-lt0.true)
+returns-then-n-lt0 c = c.if-n-lt0.true ∙ below c.args.d (is_neg _ c.ranges.n c.if-n-lt0.true)
 
-pub returns : goal.returns
-returns c =
+pub returns-else-n-lt0 : goal.returns-else-n-lt0
+returns-else-n-lt0 c =
     let is-nonneg : NonNeg c.args.n = is_non_neg _ c.ranges.n c.if-n-lt0.false in
     rw (cast_pos is-nonneg) (compared c.args.d is-nonneg)

@@ -1,16 +1,17 @@
 -- `stack::not` meets its contract: the top's place takes the bit. Assumes nothing.
-use mathlib.Core.Path.{◌≡◌, refl, sym, ap, ◌∙◌}
+use mathlib.Core.Path.{◌≡◌, refl, ap, ◌∙◌}
+use mathlib.Core.Bool.{Bool, true, false}
 use mathlib.Core.List.{List, ◌∷◌}
 use Prim.Native.Nat.{ℕ, ◌-◌, ◌<◌}
 use native.Mathlib.Omega.{arith}
 use borrow.Author.Tests.{ne_eqb}
 use borrow.Author.Rules.{sfits_of, rules}
+use lib.Dec.{eqb}
 use lib.ListN.{get_or, drop}
 use lib.IntN.{ℤ, pos, negsuc}
 use mir.Syntax.{w64}
-use mir.Val.{SFits, of_z}
-use mir.Facts.{sfits_lit}
-use Rattle.word.proofs.Signed.{same_bits}
+use mir.Val.{SFits, of_z, bool_byte}
+use Rattle.word.proofs.Signed.{back}
 use Rattle.word.specs.Word.{is_zero}
 use Rattle.stack.specs.Stack.{Does, stack_of}
 use Rattle.stack.specs.Instr as Instr
@@ -24,28 +25,21 @@ nots : {cells cells' : List ℤ} {d d' : ℕ} (v : ℤ) → 0 < d → v ≡ bit 
 unfolding Instr.not
 nots {cells} {cells'} {d} v h e p = record { lies = p.lies; is = p.is ∙ rw (one cells d h, e) refl }
 
-is-zero : (a : ℤ) → SFits w64 a → of_z w64 a ≡ 0 → pos 1 ≡ bit (is_zero a)
-unfolding is_zero
-is-zero a f e = ap (λ (z : ℤ). bit (is_zero z)) (sym (same_bits {y = pos 0} f (sfits_lit tt) e))
+bit_is : (t : Bool) → pos (bool_byte t) ≡ bit t
+bit_is true = refl
+bit_is false = refl
 
-not_zero : (a : ℤ) → (of_z w64 a ≡ 0 → ⊥) → pos 0 ≡ bit (is_zero a)
+same_test : (a : ℤ) → SFits w64 a → eqb (of_z w64 a) 0 ≡ is_zero a
 unfolding is_zero
-not_zero (pos n) h = rw (ne_eqb n 0 h) refl
-not_zero (negsuc n) h = refl
+same_test (pos n) f = refl
+same_test (negsuc n) f = ne_eqb _ 0 (λ e. omega (arith, f.sfits))
 
 pub returns-then-depth-eq0 : goal.returns-then-depth-eq0
 unfolding stack_of Instr.not
 returns-then-depth-eq0 c = search rules
 
-pub returns-then-a-eq0 : goal.returns-then-a-eq0
-returns-then-a-eq0 c =
-    nots (pos 1) (omega arith)
-    (is-zero (get_or c.args.stack.now (c.args.depth - 1) (pos 0)) (sfits_of c.a-1.given)
-    c.if-a-eq0.true)
-    c.put.ensures
-
 pub returns : goal.returns
 returns c =
-    nots (pos 0) (omega arith)
-    (not_zero (get_or c.args.stack.now (c.args.depth - 1) (pos 0)) c.if-a-eq0.false)
-    c.put-2.ensures
+    let a : ℤ = get_or c.args.stack.now (c.args.depth - 1) (pos 0) in
+    let e = c.from.ensures ∙ bit_is (eqb (of_z w64 a) 0) ∙ ap bit (same_test a (sfits_of c.a-1.given)) in
+    nots c.from.result (omega arith) e (rw (back c.from.result c.from.type_inv) at c.put.ensures)

@@ -19,10 +19,6 @@ pub returns-then-depth-eq0 : goal.returns-then-depth-eq0
 unfolding Puts
 returns-then-depth-eq0 c = empty_kept _ c.if-depth-eq0.true c.requires.lies c.requires.holds
 
-pub put_out-requires : goal.put_out-requires
-put_out-requires c =
-    record { lies = c.requires.lies; holds = c.requires.holds; depth_nonzero = omega arith }
-
 pub returns-then-is_scalar : goal.returns-then-is_scalar
 unfolding char
 returns-then-is_scalar c =
