@@ -1,7 +1,6 @@
 // The search for nodes, breadth first from region 0: each found region's exits are settled as it is
 // taken from the queue.
 ghost use Rattle.std.specs.Prelude.{◌≡◌, ◌+◌, ◌*◌, ◌/◌, ◌%◌, ◌<◌, ◌≤◌, length, get_or};
-ghost use Rattle.colour.specs.Lookup.{DecodesPairs};
 ghost use Rattle.flow.specs.Pointer.{of_number};
 ghost use Rattle.picture.specs.Codels.{picture_in};
 ghost use Rattle.picture.specs.Picture.{rows_of, cols_of, codels};
@@ -119,7 +118,6 @@ fn way_number(
     requires grounds { Grounds (picture_in grid) map.now }
     requires in_grid { InGrid (picture_in grid) way }
     requires state_bound { state < 8 }
-    requires decodes_pairs { DecodesPairs pairs.now }
     ensures { result ≡ way_number edition (picture_in grid.entry) map.now from state way }
 {
     let cols = grid.shape.cols;
@@ -166,7 +164,6 @@ fn try_state(
     requires r_in_bounds { exits_room (r + 1) ≤ length exits.old }
     requires r_bound { r < 65536 }
     requires state_bound { state < 8 }
-    requires decodes_pairs { DecodesPairs pairs.now }
     ensures { Tries edition (picture_in grid.entry) map.now r state rows.old exits.old work.old tail rows.new exits.new work.new result }
 {
     let cell = exit_cell(r, state as usize);
@@ -195,7 +192,6 @@ fn try_states(
 ) -> usize
     requires taken { Taken edition (picture_in grid) map.now exits.old work.old r }
     requires queue { Queue edition (picture_in grid) map.now rows.old work.old tail }
-    requires decodes_pairs { DecodesPairs pairs.now }
     ensures { Several edition (picture_in grid.entry) map.now r 8 rows.old exits.old work.old tail rows.new exits.new work.new result }
 {
     let mut end = tail;

@@ -33,7 +33,7 @@ try_states-tail-requires c =
     let the-pair-table = c.pair_table-pairs in
     let the-loop = c.loop-head in
     let the-loop-test = c.loop-head-test in
-    record { taken = rw the-wide.ensures (search_taken the-pre the-visit.ensures the-loop.invariant the-loop-test.true); queue = the-loop.invariant.queue; decodes_pairs = the-pair-table.ensures }
+    record { taken = rw the-wide.ensures (search_taken the-pre the-visit.ensures the-loop.invariant the-loop-test.true); queue = the-loop.invariant.queue }
 
 pub loop-head-smaller : goal.loop-head-smaller
 loop-head-smaller c =

@@ -26,7 +26,7 @@ way_number-requires c =
     let the-pre = c.requires in
     let the-args = c.args in
     let the-wide = c.wide-i in
-    record { grounds = the-pre.grounds; in_grid = placed (leave_inside the-args.state the-pre.grounds the-pre.leaves_by (rw the-exit-cell.ensures at the-wide.ensures) c.args.grid.framed.cols_are) (rw c.of_number-p.ensures (valid_number the-args.state the-pre.state_bound)) c.attempt_from-way.ensures; state_bound = the-pre.state_bound; decodes_pairs = the-pre.decodes_pairs }
+    record { grounds = the-pre.grounds; in_grid = placed (leave_inside the-args.state the-pre.grounds the-pre.leaves_by (rw the-exit-cell.ensures at the-wide.ensures) c.args.grid.framed.cols_are) (rw c.of_number-p.ensures (valid_number the-args.state the-pre.state_bound)) c.attempt_from-way.ensures; state_bound = the-pre.state_bound }
 
 pub bounds-exits-cell-2 : goal.bounds-exits-cell-2
 bounds-exits-cell-2 c =

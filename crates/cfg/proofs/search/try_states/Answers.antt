@@ -23,7 +23,6 @@ try_state-end-requires c =
       r_in_bounds = omega (arith, W.exits_length, T.exits_long);
       r_bound = T.few;
       state_bound = h;
-      decodes_pairs = c.requires.decodes_pairs;
     }
 
 pub loop-state-preserved : goal.loop-state-preserved

@@ -3,6 +3,6 @@ use Rattle.colour.specs.Decode.{decode_of}
 use Rattle.colour.proofs.DecodeLaws.{all_right}
 use Rattle.colour.proofs.decode.pair_table.Goals as goal
 
-pub returns : goal.returns
+pub invariant_of-result : goal.invariant_of-result
 unfolding decode_of
-returns c = all_right _ tt
+invariant_of-result c = record { decodes = all_right _ tt }
