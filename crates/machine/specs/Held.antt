@@ -60,6 +60,11 @@ StackExecs e stack at stack' r =
     (kinds : List ℕ) (values : List ℤ) → Holds kinds values at.outputs
     → Execs e (slices stack kinds values) at (slices stack' kinds values) r
 
+-- what a call may give of pointers and a number is what f gives, which leaves valid pointers valid
+abbrev pub TurnsBy : (PointerState → ℤ → PointerState) → PointerState → (ℤ → PointerState → Type 0) → Type 0
+TurnsBy f pointers gives =
+    ((p : PointerState) (z : ℤ) → Valid p → Valid (f p z)) × ((z : ℤ) (p : PointerState) → gives z p → p ≡ f pointers z)
+
 abbrev pub at_depth : ℕ → Core → Core
 at_depth d at = record { pointers = at.pointers; depth = d; outputs = at.outputs; reading = at.reading }
 

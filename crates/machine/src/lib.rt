@@ -3,13 +3,13 @@
 
 pub mod output;
 
-ghost use Rattle.std.specs.Prelude.{◌≡◌};
+ghost use Rattle.std.specs.Prelude.{◌≡◌, ℤ};
 ghost use Rattle.flow.specs.Pointer.{Valid, rotated, switched};
 ghost use Rattle.text.specs.Input.{char_of, int_of, whole_line, char_next};
 ghost use Rattle.stack.specs.Stack.{Lies};
 ghost use Rattle.machine.specs.Counts.{Countable, one_more, counted};
 ghost use Rattle.machine.specs.Machine.{given, JudgedIn, exec, take, take_number, turn, read, op_numbered, status_of};
-ghost use Rattle.machine.specs.Held.{slices, Stands, Execs, StackExecs, at_used, at_pointers, at_wait, at_skips, grown_of, wrote_of};
+ghost use Rattle.machine.specs.Held.{slices, Stands, Execs, StackExecs, TurnsBy, at_used, at_pointers, at_wait, at_skips, grown_of, wrote_of};
 
 use base::edition::Edition;
 use flow::PointerState;
@@ -228,11 +228,16 @@ fn after_output(at: Core, wrote: Option<(usize, usize)>) -> Result<Core, Stop>
     }
 }
 
-// Ptr: dp turned by the top, which is gone.
-fn turn_pointer(stack: &mut [i64], at: Core) -> Result<Core, Stop>
+// Ptr, Swi: the pointers turned by the top, which is gone.
+fn turn<F: Fn(PointerState, i64) -> PointerState>(
+    stack: &mut [i64],
+    at: Core,
+    by: F,
+) -> Result<Core, Stop>
     requires lies { Lies stack.old at.depth }
     requires valid { Valid at.pointers }
-    ensures { StackExecs (turn rotated) stack.old at stack.new result }
+    requires callable { (z : ℤ) → F.pre by at.pointers z }
+    ensures { (f : _) → TurnsBy f at.pointers (F.post by at.pointers) → StackExecs (turn f) stack.old at stack.new result }
 {
     let depth = at.depth;
     if depth == 0 {
@@ -240,30 +245,9 @@ fn turn_pointer(stack: &mut [i64], at: Core) -> Result<Core, Stop>
     }
     let n = stack[depth - 1];
     let d = stack::pop(stack, depth);
-    let p = at.pointers;
     Ok(Core {
         depth: d,
-        pointers: p.rotate(n),
-        ..at
-    })
-}
-
-// Swi: cc flipped by the top, which is gone.
-fn flip_chooser(stack: &mut [i64], at: Core) -> Result<Core, Stop>
-    requires lies { Lies stack.old at.depth }
-    requires valid { Valid at.pointers }
-    ensures { StackExecs (turn switched) stack.old at stack.new result }
-{
-    let depth = at.depth;
-    if depth == 0 {
-        return Ok(at);
-    }
-    let n = stack[depth - 1];
-    let d = stack::pop(stack, depth);
-    let p = at.pointers;
-    Ok(Core {
-        depth: d,
-        pointers: p.switch(n),
+        pointers: by(at.pointers, n),
         ..at
     })
 }
@@ -350,8 +334,8 @@ pub fn exec(
             depth: stack::not(stack, d),
             ..at
         }),
-        Op::Ptr => turn_pointer(stack, at),
-        Op::Swi => flip_chooser(stack, at),
+        Op::Ptr => turn(stack, at, PointerState::rotate),
+        Op::Swi => turn(stack, at, PointerState::switch),
         Op::Dup => after_growth(at, stack::double(stack, d)),
         Op::Roll => Ok(Core {
             depth: stack::roll(stack, d, edition),

@@ -1,5 +1,5 @@
-// Outputs: CharOut and IntOut, each with the depth and the number of outputs that it leaves, or nothing where there is no room for it. Both slices are tested for room before anything is written, so that a step which cannot be
-// kept leaves every cell.
+// Outputs: CharOut and IntOut, each with the depth and the number of outputs that it leaves, or nothing where there is no room
+// for it. Both slices are tested for room before anything is written, so that a step which cannot be kept leaves every cell.
 ghost use Rattle.std.specs.Prelude.{◌∷◌, [], ◌<◌, length};
 ghost use Rattle.stack.specs.Stack.{Lies};
 ghost use Rattle.machine.specs.Output.{Holds, Writes, Puts, int_out, char_out};

@@ -4,6 +4,8 @@ use native.Mathlib.Omega.{arith}
 use lib.IntN.{pos}
 use mir.Syntax.{w64}
 use mir.Facts.{to_z_pos}
+use Rattle.flow.proofs.Order.{valid_rotated, valid_switched}
+use Rattle.flow.specs.Pointer.{rotated, switched}
 use Rattle.stack.specs.Instr as Instr
 use Rattle.machine.specs.Machine.{exec}
 use Rattle.machine.specs.Output.{char_out, int_out}
@@ -51,12 +53,12 @@ returns-in-Not c =
 pub returns-in-Ptr : goal.returns-in-Ptr
 unfolding exec
 returns-in-Ptr c =
-    rw c.in-Ptr.is (c.turn_pointer.ensures c.args.kinds.now c.args.values.now c.requires.stands.holds)
+    rw c.in-Ptr.is (c.turn.ensures rotated (valid_rotated, (λ z p e. e.1)) c.args.kinds.now c.args.values.now c.requires.stands.holds)
 
 pub returns-in-Swi : goal.returns-in-Swi
 unfolding exec
 returns-in-Swi c =
-    rw c.in-Swi.is (c.flip_chooser.ensures c.args.kinds.now c.args.values.now c.requires.stands.holds)
+    rw c.in-Swi.is (c.turn-in-Swi.ensures switched (valid_switched, (λ z p e. e.1)) c.args.kinds.now c.args.values.now c.requires.stands.holds)
 
 pub returns-in-Dup : goal.returns-in-Dup
 unfolding exec
