@@ -10,12 +10,14 @@ use Rattle.base.specs.Numbers.{numbers}
 use Rattle.base.specs.Refusal.{number_of_refusal}
 use Rattle.base.specs.Lent.{Put, lent}
 use Rattle.base.proofs.Over.{over_zero}
-use Rattle.base.proofs.Refusals as refusing
 use Rattle.interpreter.specs.declared.Ended.{Ended}
 use Rattle.machine.specs.Place.{End}
 use Rattle.interpreter.specs.Outcome.{ended_of}
 use Rattle.piet.specs.declared.run_picture.Pictured.{Pictured}
-use Rattle.piet.specs.declared.run_picture.Pictured.TheVariants.{Finished, Refused}
+use Rattle.std.specs.Prelude.{Ok, Err}
+use Rattle.base.specs.Refusal.{number_of_refusal, place_cells}
+use Rattle.base.specs.declared.refusal.Refusal.{Refusal}
+use Rattle.base.proofs.RefusalLaws.{number_suc}
 use Rattle.piet.specs.RunPicture.{Asked, Lends, RanPicture}
 use Rattle.piet.specs.RunPicture as running
 use Rattle.job.specs.Encoding.{Content, IsJob}
@@ -26,7 +28,6 @@ use Rattle.answer.specs.Program.{asked_of, refusal_of, Answers, no_job, refused,
 use Rattle.answer.specs.Answer.{Result}
 use Rattle.answer.specs.Printing.{lines_of, Printable}
 use Rattle.answer.proofs.Ending.{Sized, same_refusal, labelled, printable, lines_are, ran_so}
-use Rattle.base.proofs.Clash.{clash}
 
 -- the text at the start
 pub prints : {Shows : Content → List ℕ → Type 0} {job before after text : List ℕ} {n : ℕ} → Answers Shows job text → Put before 0 text n after
@@ -53,34 +54,34 @@ pub record Finish (a : Asked) (l l' : Lends) (x : Ended) (n : ℕ) : Type 0 wher
   pub runs : RanPicture a l l' end
   pub counted : runs.regions ≡ n
 
-pub finish : {a : Asked} {l l' : Lends} {x : Ended} {n : ℕ} (r : Pictured) → r ≡ Finished x n → running.Outcome a l r l' → Finish a l l' x n
-finish r z (running.refused k v h q) = absurd (refusing.refused k v _ (sym q ∙ ap running.numbered z))
-finish r z (running.done {e} none R) = record { end = e; is = cc; none = none; runs = R; counted = cc }
+pub finish : {a : Asked} {l l' : Lends} {v : Pictured} → running.Outcome a l (Ok v) l' → Finish a l l' v.ended v.regions
+finish (running.done {e} none R) = record { end = e; is = refl; none = none; runs = R; counted = refl }
 
 -- a refusal's number
-pub refusal_is : {a : Asked} {l l' : Lends} {n y x : ℕ} (r : Pictured) → r ≡ Refused n y x → running.Outcome a l r l'
-    → (k : ℕ) × (v : List ℕ) × (n ≡ suc k) × (running.refusal_of a l ≡ numbers (suc k) v)
-refusal_is r z (running.refused k v h q) = (k, v, (let e = sym (ap running.numbered z) ∙ q in cc), h)
-refusal_is r z (running.done none R) = clash (cc)
+pub refusal_is : {a : Asked} {l l' : Lends} {r : Refusal} → running.Outcome a l (Err r) l'
+    → (k : ℕ) × (v : List ℕ) × (number_of_refusal r ≡ suc k) × (running.refusal_of a l ≡ numbers (suc k) v)
+refusal_is (running.refused r e) =
+    let s = number_suc r in
+    (s.0, place_cells r, s.1, sym e ∙ ap (λ (k : ℕ). numbers k (place_cells r)) s.1)
 
 module _ {job : List ℕ} (c : Content) (j : IsJob job c) {l l' : Lends} (s : Sized l) where
-  pub prints_refusal : {Shows : Content → List ℕ → Type 0} {n y x r : ℕ} {before after : List ℕ} → running.Outcome (asked_of c) l (Refused n y x) l' → Put before 0 (refusal_text n) r after
+  pub prints_refusal : {Shows : Content → List ℕ → Type 0} {k : Refusal} {r : ℕ} {before after : List ℕ} → running.Outcome (asked_of c) l (Err k) l' → Put before 0 (refusal_text (number_of_refusal k)) r after
       → Prints Shows job before r after
-  prints_refusal {n} o p =
-      let (k, v, e, h) = refusal_is _ refl o in
+  prints_refusal o p =
+      let (k, v, e, h) = refusal_is o in
       prints (rw e (refused c j k v (sym (same_refusal c s) ∙ h))) p
 
-  module _ (s' : Sized l') {x : Ended} {n : ℕ} (o : running.Outcome (asked_of c) l (Finished x n) l') where
-    f : Finish (asked_of c) l l' x n
-    f = finish _ refl o
+  module _ (s' : Sized l') {x : Pictured} (o : running.Outcome (asked_of c) l (Ok x) l') where
+    f : Finish (asked_of c) l l' x.ended x.regions
+    f = finish o
 
     none : refusal_of c ≡ numbers 0 (0 ∷ 0 ∷ [])
     none = sym (same_refusal c s) ∙ f.none
 
-    pub printable_end : (room : ℕ) → 16384 ≤ room → Printable room x l'.rows l'.run.stack l'.run.kinds l'.run.values
+    pub printable_end : (room : ℕ) → 16384 ≤ room → Printable room x.ended l'.rows l'.run.stack l'.run.kinds l'.run.values
     printable_end room h = rw f.is (printable c s s' none f.runs room h)
 
-    pub prints_end : {before after : List ℕ} {r : ℕ} → Put before 0 (lines_of x l'.rows l'.run.stack l'.run.kinds l'.run.values) r after
+    pub prints_end : {before after : List ℕ} {r : ℕ} → Put before 0 (lines_of x.ended l'.rows l'.run.stack l'.run.kinds l'.run.values) r after
         → Prints Result job before r after
     prints_end p =
         prints

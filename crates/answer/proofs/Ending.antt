@@ -71,7 +71,7 @@ legal_at (x ∷ cs) h (suc i) =
 pub enough : (c : Content) → refusal_of c ≡ numbers 0 (0 ∷ 0 ∷ []) → Enough (asked_picture (asked_of c)) 512 2560 4096 512
 enough c h =
     building.accepted rust_number (asked_picture (asked_of c)) 512 2560 4096 512 (0 ∷ 0 ∷ [])
-    (sym (picture.accepted (asked_of c) fresh 0 (0 ∷ 0 ∷ []) refl (sym (same_refusal c fresh_sized ∙ h))).builds)
+    (sym (picture.accepted (asked_of c) fresh (0 ∷ 0 ∷ []) (sym (same_refusal c fresh_sized ∙ h))).builds)
 
 module _ (c : Content) {l l' : Lends} {e : End} (s : Sized l) (s' : Sized l') (h : refusal_of c ≡ numbers 0 (0 ∷ 0 ∷ []))
     (R : RanPicture (asked_of c) l l' e) where

@@ -1,5 +1,5 @@
 -- What `label` answers and leaves where it is not refused. Assumes nothing.
-use mathlib.Core.Path.{◌≡◌, sym, ap, ◌∙◌}
+use mathlib.Core.Path.{◌≡◌, refl, sym, ap, ◌∙◌}
 use mathlib.Core.List.{List, [], ◌∷◌, ◌++◌, append_assoc}
 use Prim.Native.Nat.{ℕ, ◌-◌, ◌≤◌}
 use native.Mathlib.Omega.{arith}
@@ -8,8 +8,9 @@ use lib.ListN.{length, take, drop, replicate, length-append}
 use lib.Seq.{take_at, length-take-le}
 use Rattle.base.specs.Lent.{lent}
 use Rattle.base.specs.Numbers.{numbers, first}
-use Rattle.base.proofs.Refusals as refusals
-use Rattle.colour.specs.declared.label.Labelled.TheVariants.{Done, Label}
+use Rattle.std.specs.Prelude.{Result, Ok, Err, IsOk}
+use Rattle.base.specs.declared.refusal.Refusal.{Refusal}
+use Rattle.base.proofs.RefusalLaws.{never_done}
 use Rattle.colour.specs.Label.{label_of, padded, answer, Outcome}
 use Rattle.colour.proofs.LabelLaws.{label_length}
 use Rattle.report.specs.Fits.{Fits}
@@ -21,10 +22,11 @@ module _ (colour r c : ℕ) (before : List ℕ) (h : Legal colour r c) (room : 2
   not_refused =
       rw (le-ltb 19 colour h.colour_in, le-ltb 1023 r h.row_in, le-ltb 1023 c h.column_in, le-ltb (length before) 22 room)
 
-  pub label_given : {after : List ℕ} → Outcome colour r c before Label after → ⊥
-  label_given o = refusals.refused 11 _ _ (o.answers ∙ not_refused)
+  pub label_given : (given : Result ℕ Refusal) {after : List ℕ} → Outcome colour r c before given after → IsOk given
+  label_given (Ok n) o = refl
+  label_given (Err k) o = absurd (never_done _ _ _ (o.answers ∙ not_refused))
 
-  pub label_starts : {after : List ℕ} {n : ℕ} → Outcome colour r c before (Done n) after
+  pub label_starts : {after : List ℕ} {n : ℕ} → Outcome colour r c before (Ok n) after
       → Starts after n (label_of colour r c) × (n ≤ 22) × (after ≡ lent (padded (label_of colour r c)) before)
   unfolding lent padded
   label_starts {after} {n} o =

@@ -20,7 +20,7 @@ pub all_known_run : (c : Content) → refusal_of c ≡ numbers 0 (0 ∷ 0 ∷ []
     → (i : ℕ) → i < c.height * c.width → (k : ℕ) × (get_or (classifying.found c.pixels) i None ≡ Some k)
 all_known_run c h =
     all_known c.pixels c.height c.width 512 (0 ∷ 0 ∷ [])
-    (sym (accepted (asked_of c) fresh 0 (0 ∷ 0 ∷ []) refl (sym (same_refusal c fresh_sized ∙ h))).classifies)
+    (sym (accepted (asked_of c) fresh (0 ∷ 0 ∷ []) (sym (same_refusal c fresh_sized ∙ h))).classifies)
 
 -- by number: red and 010203, 1 x 2
 abbrev strange : Content

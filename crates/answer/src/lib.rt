@@ -12,7 +12,7 @@ ghost use Rattle.answer.specs.Answer.{Result, Outcome};
 ghost use Rattle.answer.specs.Printing.{Starts, Legal, HasLabel, label_in, lines_of, Printable};
 
 use base::edition::RUST_EDITION;
-use colour::label::Labelled;
+use base::refusal::Refusal;
 use colour::setting::REFUSE_UNKNOWN;
 use interpreter::Ended;
 use job::Parts;
@@ -28,16 +28,7 @@ fn put_label(colour: u32, row: u32, column: u32, out: &mut [u8]) -> usize
     requires { Legal colour row column × (22 ≤ length out.old) }
     ensures { Starts out.new result (label_of colour row column) × (result ≤ 22) × (out.new ≡ lent (padded (label_of colour row column)) out.old) }
 {
-    let Labelled::Done { length } = colour::label::label(
-        colour as u8,
-        row as usize,
-        column as usize,
-        out,
-    ) else {
-        // never reached: a legal row has a label
-        return 0;
-    };
-    length
+    colour::label::label(colour as u8, row as usize, column as usize, out).unwrap()
 }
 
 // The label of a region of the table.
@@ -92,7 +83,7 @@ pub fn run_parts(
     stack: &mut [i64],
     kinds: &mut [u8],
     values: &mut [i64],
-) -> Pictured
+) -> Result<Pictured, Refusal>
     requires { LaidOut job.now p }
     ensures { running.Outcome (asked_of (content_of job.now p)) (lends colours.old map.old rows.old exits.old work.old stack.old kinds.old values.old) result (lends colours.new map.new rows.new exits.new work.new stack.new kinds.new values.new) }
 {
@@ -147,8 +138,8 @@ fn run_job(job: &[u8], out: &mut [u8], p: Parts) -> usize
         &mut values,
     );
     match pictured {
-        Pictured::Finished { ended, .. } => put_ended(out, ended, &rows, &stack, &kinds, &values),
-        Pictured::Refused { number, .. } => put_refusal(out, number as u64),
+        Ok(pictured) => put_ended(out, pictured.ended, &rows, &stack, &kinds, &values),
+        Err(refusal) => put_refusal(out, refusal.number() as u64),
     }
 }
 

@@ -3,6 +3,7 @@ pub mod Only
 pub mod Clash
 pub mod Refusals
 pub mod RefusalLaws
+pub mod EditionLaws
 pub mod Tests
 pub mod CountingLaws
 pub mod Pigeonhole

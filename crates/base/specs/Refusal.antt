@@ -1,6 +1,7 @@
 -- Refusals: the number of each (rule 12.2), and the place that it names. Assumes nothing.
-use Rattle.std.specs.Prelude.{ℕ}
+use Rattle.std.specs.Prelude.{List, [], ◌∷◌, ℕ, Result, Ok, Err}
 use Rattle.base.specs.declared.refusal.Refusal.{Refusal}
+use Rattle.base.specs.Numbers.{Numbers, numbers}
 use Rattle.base.specs.declared.refusal.Refusal.TheVariants.{
   Size,
   Bytes,
@@ -57,3 +58,16 @@ place_of Header = (0, 0)
 place_of Length = (0, 0)
 place_of Edition = (0, 0)
 place_of Limit = (0, 0)
+
+-- the same as the cells of an answer
+abbrev pub place_cells : Refusal → List ℕ
+place_cells r = let p = place_of r in p.0 ∷ p.1 ∷ []
+
+-- what a call answers, in numbers (rules 12.1, 12.2): 0 and the values of what it gives, or the number of the refusal and its values
+abbrev pub answered : {T : Type 0} → (T → List ℕ) → (Refusal → List ℕ) → Result T Refusal → Numbers
+answered given refused (Ok t) = numbers 0 (given t)
+answered given refused (Err r) = numbers (number_of_refusal r) (refused r)
+
+-- the same of tests, which give nothing: zeros where all are passed
+abbrev pub tested : Result (Unit {0}) Refusal → Numbers
+tested = answered (λ u. 0 ∷ 0 ∷ []) place_cells

@@ -21,8 +21,10 @@ use Rattle.base.specs.declared.edition.Edition.{Edition}
 use Rattle.base.proofs.Refusals.{passed, no_row}
 use Rattle.base.proofs.Tests.{neither}
 use Rattle.base.proofs.Sides.{side}
-use Rattle.cfg.specs.declared.building.Built.{Built}
-use Rattle.cfg.specs.declared.building.Built.TheVariants.{Done, UnknownEdition, Size, Codel, Grid, Bytes, Colour, White, Room}
+use Rattle.std.specs.Prelude.{Result, Ok, Err}
+use Rattle.base.specs.Refusal.{place_cells}
+use Rattle.base.specs.declared.refusal.Refusal.{Refusal}
+use Rattle.base.proofs.RefusalLaws.{never_done, placed_only}
 use Rattle.cfg.specs.Table.{Builds}
 use Rattle.cfg.specs.Search.{Sized}
 use Rattle.cfg.specs.Build.{numbered, legal_first, short, picture_refusals, picture_refusal, refusals, refusal, Enough, Written, Outcome, refused, done}
@@ -60,7 +62,7 @@ unfolding refusal refusals picture_refusal
 past_edition n p m r e w v h = (passed _ 14 _ v _ _ h).1
 
 -- what a call that is not refused may rely on
-picture_accepted : (p : Picture) (m r e w : ℕ) (v : List ℕ) → numbers 0 v ≡ picture_refusal p m r e w → Enough p m r e w
+pub picture_accepted : (p : Picture) (m r e w : ℕ) (v : List ℕ) → numbers 0 v ≡ picture_refusal p m r e w → Enough p m r e w
 unfolding picture_refusal picture_refusals short
 picture_accepted p m r e w v h =
     let a = passed _ 0 _ v _ _ h in
@@ -97,63 +99,33 @@ picture_accepted p m r e w v h =
 pub accepted : (n : ℕ) (p : Picture) (m r e w : ℕ) (v : List ℕ) → numbers 0 v ≡ refusal n p m r e w → Enough p m r e w
 accepted n p m r e w v h = picture_accepted p m r e w v (past_edition n p m r e w v h)
 
--- a number names one case
-abbrev built_of : Numbers → Built
-built_of (numbers zero v) = Done (get_or v 0 0)
-built_of (numbers (suc zero) v) = Size
-built_of (numbers (suc (suc zero)) v) = Bytes
-built_of (numbers (suc (suc (suc zero))) v) = Size
-built_of (numbers (suc (suc (suc (suc zero)))) v) = Room
-built_of (numbers (suc (suc (suc (suc (suc zero))))) v) = Size
-built_of (numbers (suc (suc (suc (suc (suc (suc zero)))))) v) = Codel
-built_of (numbers (suc (suc (suc (suc (suc (suc (suc zero))))))) v) = Grid
-built_of (numbers (suc (suc (suc (suc (suc (suc (suc (suc zero)))))))) v) = Colour (get_or v 1 0)
-built_of (numbers (suc (suc (suc (suc (suc (suc (suc (suc (suc zero))))))))) v) = White
-built_of (numbers (suc (suc (suc (suc (suc (suc (suc (suc (suc (suc n)))))))))) v) = UnknownEdition
-
-named : (r : Built) → built_of (numbered r) ≡ r
-named (Done n) = refl
-named UnknownEdition = refl
-named Size = refl
-named Codel = refl
-named Grid = refl
-named Bytes = refl
-named (Colour i) = refl
-named White = refl
-named Room = refl
-
-pub same_case : (r r' : Built) → numbered r ≡ numbered r' → r ≡ r'
-same_case r r' e = sym (named r) ∙ ap built_of e ∙ named r'
-
 -- two lists that agree up to a place and past it are equal
 joined : (n : ℕ) {a b : List ℕ} → take n a ≡ take n b → drop n a ≡ drop n b → a ≡ b
 joined n {a} {b} t d = sym (take-append-drop n a) ∙ ap (λ (x : List ℕ). x ++ drop n a) t ∙ ap (λ (x : List ℕ). take n b ++ x) d ∙ take-append-drop n b
 
-clash : {A : Type 0} {k : ℕ} {u v : List ℕ} {x : Numbers} → x ≡ numbers (suc k) u → x ≡ numbers 0 v → A
-clash {k = k} e f = absurd (never e f)
-  where
-    never : {x : Numbers} {u v : List ℕ} → x ≡ numbers (suc k) u → x ≡ numbers 0 v → ⊥
-    never e f = let z : suc k ≡ 0 = cc in omega arith
+-- a refusal is not the answer 0
+clash : {A : Type 0} (r : Refusal) {x : Numbers} → numbered (Err r) ≡ x → x ≡ numbers 0 (0 ∷ 0 ∷ []) → A
+clash r e f = absurd (never_done r (place_cells r) (0 ∷ 0 ∷ []) (e ∙ f))
 
 -- what a call answers and leaves is determined by its arguments
-pub record Same (r r' : Built) (map map' rows rows' exits exits' work work' : List ℕ) : Type 0 where
+pub record Same (r r' : Result ℕ Refusal) (map map' rows rows' exits exits' work work' : List ℕ) : Type 0 where
   pub answer : r ≡ r'
   pub map_same : map ≡ map'
   pub rows_same : rows ≡ rows'
   pub exits_same : exits ≡ exits'
   pub work_same : work ≡ work'
 
-pub outcome_only : {n : ℕ} {p : Picture} {map rows exits work : List ℕ} {r r' : Built} {m m' t t' e e' w w' : List ℕ}
+pub outcome_only : {n : ℕ} {p : Picture} {map rows exits work : List ℕ} {r r' : Result ℕ Refusal} {m m' t t' e e' w w' : List ℕ}
     → Outcome n p map rows exits work r m t e w → Outcome n p map rows exits work r' m' t' e' w' → Same r r' m m' t t' e e' w w'
-outcome_only (refused {r = r} k v e n) (refused {r = r'} k' v' e' n') =
-    record { answer = same_case r r' (n ∙ sym e ∙ e' ∙ sym n'); map_same = refl; rows_same = refl; exits_same = refl; work_same = refl }
-outcome_only (refused k v e n) (done e' b') = clash e e'
-outcome_only (done e b) (refused k v e' n') = clash e' e
+outcome_only (refused r e) (refused r' e') =
+    record { answer = placed_only (λ n. n ∷ 0 ∷ []) (λ t u k. ap (λ (v : List ℕ). get_or v 0 0) k) (Err r) (Err r') (e ∙ sym e'); map_same = refl; rows_same = refl; exits_same = refl; work_same = refl }
+outcome_only (refused r e) (done e' b') = clash r e e'
+outcome_only (done e b) (refused r e') = clash r e' e
 outcome_only {n} {p} {map} {rows} {exits} {work} (done e b) (done e' b') =
     let s = accepted n p (length map) (length rows) (length exits) (length work) (0 ∷ 0 ∷ []) (sym e) in
     let o = table_only (cols_pos s.sound) b.builds b'.builds in
     record {
-      answer = ap Done o.4;
+      answer = ap Ok o.4;
       map_same = joined (codels p) o.0 (b.map_rest ∙ sym b'.map_rest);
       rows_same = joined (rows_room (codels p)) o.1 (b.rows_rest ∙ sym b'.rows_rest);
       exits_same = joined (exits_room (codels p)) o.2 (b.exits_rest ∙ sym b'.exits_rest);
@@ -230,19 +202,6 @@ picture_none_refused p m r e w v h =
 
 pub none_refused : (n : ℕ) (p : Picture) (m r e w : ℕ) (v : List ℕ) → numbers 0 v ≡ refusal n p m r e w → refusal n p m r e w ≡ numbers 0 (0 ∷ 0 ∷ [])
 none_refused n p m r e w v h = let k = past_edition n p m r e w v h in sym h ∙ k ∙ picture_none_refused p m r e w v k
-
--- any other answer leaves the slices as they were
-pub kept_all : {n : ℕ} {p : Picture} {map rows exits work : List ℕ} (r : Built) → ((k : ℕ) → r ≡ Done k → ⊥) → numbered r ≡ refusal n p (length map) (length rows) (length exits) (length work)
-    → Outcome n p map rows exits work r map rows exits work
-kept_all (Done k) d e = absurd (d k refl)
-kept_all UnknownEdition d e = refused 14 (0 ∷ 0 ∷ []) (sym e) refl
-kept_all Size d e = refused 0 (0 ∷ 0 ∷ []) (sym e) refl
-kept_all Codel d e = refused 5 (0 ∷ 0 ∷ []) (sym e) refl
-kept_all Grid d e = refused 6 (0 ∷ 0 ∷ []) (sym e) refl
-kept_all Bytes d e = refused 1 (0 ∷ 0 ∷ []) (sym e) refl
-kept_all (Colour i) d e = refused 7 (0 ∷ i ∷ []) (sym e) refl
-kept_all White d e = refused 8 (0 ∷ 0 ∷ []) (sym e) refl
-kept_all Room d e = refused 3 (0 ∷ 0 ∷ []) (sym e) refl
 
 -- the parts that are lent, and the slices that come back
 pub sized_parts : {p : Picture} (map rows exits work : List ℕ) (k : ℕ) → k ≡ codels p → Enough p (length map) (length rows) (length exits) (length work)

@@ -1,28 +1,20 @@
 -- Building: refusals 15, 1, 6, 7, 2, 8, 9, 4 in this order (rules 12.4, 16.1), and what a call answers and leaves (rule 7.4).
 -- Assumes nothing.
-use Rattle.std.specs.Prelude.{◌≡◌, Bool, not, cond, ◌||◌, List, [], ◌∷◌, ℕ, suc, ◌*◌, ◌≤◌, eqb, ltb, length, get_or, take, drop}
+use Rattle.std.specs.Prelude.{◌≡◌, Bool, not, cond, ◌||◌, List, [], ◌∷◌, ℕ, suc, ◌*◌, ◌≤◌, eqb, ltb, length, get_or, take, drop, Result, Ok, Err}
 use Rattle.base.specs.Numbers.{Numbers, numbers, Row, row, first}
 use Rattle.base.specs.Limits.{wrong_side}
 use Rattle.base.specs.Edition.{unknown_edition, edition_of}
 use Rattle.base.specs.declared.edition.Edition.{Edition}
-use Rattle.cfg.specs.declared.building.Built.{Built}
-use Rattle.cfg.specs.declared.building.Built.TheVariants.{Done, UnknownEdition, Size, Codel, Grid, Bytes, Colour, White, Room}
+use Rattle.base.specs.Refusal.{place_cells, answered}
+use Rattle.base.specs.declared.refusal.Refusal.{Refusal}
 use Rattle.cfg.specs.Table.{Builds}
 use Rattle.colour.specs.Palette.{white}
 use Rattle.picture.specs.Picture.{Picture, codels, Sound}
 use Rattle.table.specs.Layout.{rows_room, exits_room}
 
 -- the answer's number (rule 12.2), the count of regions and the index of a colour, zero where there is none
-abbrev pub numbered : Built → Numbers
-numbered (Done regions) = numbers 0 (regions ∷ 0 ∷ [])
-numbered Size = numbers 1 (0 ∷ 0 ∷ [])
-numbered Bytes = numbers 2 (0 ∷ 0 ∷ [])
-numbered Room = numbers 4 (0 ∷ 0 ∷ [])
-numbered Codel = numbers 6 (0 ∷ 0 ∷ [])
-numbered Grid = numbers 7 (0 ∷ 0 ∷ [])
-numbered (Colour index) = numbers 8 (0 ∷ index ∷ [])
-numbered White = numbers 9 (0 ∷ 0 ∷ [])
-numbered UnknownEdition = numbers 15 (0 ∷ 0 ∷ [])
+abbrev pub numbered : Result ℕ Refusal → Numbers
+numbered = answered (λ regions. regions ∷ 0 ∷ []) place_cells
 
 -- how many colours stand before the first above 19
 unfoldable pub legal_first : List ℕ → ℕ
@@ -77,9 +69,9 @@ pub record Written (e : Edition) (p : Picture) (map rows exits work map' rows' e
 
 -- what a call answers and leaves: refused, with every slice as it was; or done, with the picture's table in the edition that
 -- the number names
-pub data Outcome (edition : ℕ) (p : Picture) (map rows exits work : List ℕ) : Built → List ℕ → List ℕ → List ℕ → List ℕ → Type 0 where
-  refused : {r : Built} (k : ℕ) (v : List ℕ) → refusal edition p (length map) (length rows) (length exits) (length work) ≡ numbers (suc k) v → numbered r ≡ numbers (suc k) v
-      → Outcome edition p map rows exits work r map rows exits work
+pub data Outcome (edition : ℕ) (p : Picture) (map rows exits work : List ℕ) : Result ℕ Refusal → List ℕ → List ℕ → List ℕ → List ℕ → Type 0 where
+  refused : (r : Refusal) → numbered (Err r) ≡ refusal edition p (length map) (length rows) (length exits) (length work)
+      → Outcome edition p map rows exits work (Err r) map rows exits work
   done : {n : ℕ} {map' rows' exits' work' : List ℕ} → refusal edition p (length map) (length rows) (length exits) (length work) ≡ numbers 0 (0 ∷ 0 ∷ [])
       → Written (edition_of edition) p map rows exits work map' rows' exits' work' n
-      → Outcome edition p map rows exits work (Done n) map' rows' exits' work'
+      → Outcome edition p map rows exits work (Ok n) map' rows' exits' work'

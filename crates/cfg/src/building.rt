@@ -1,30 +1,18 @@
 // Building: its tests, and then the table.
 ghost use Rattle.std.specs.Prelude.{◌≡◌, ◌*◌, ◌<◌, ◌≤◌, length};
+ghost use Rattle.base.specs.Refusal.{tested};
 ghost use Rattle.picture.specs.Codels.{picture_in};
 ghost use Rattle.picture.specs.Picture.{picture, ceil};
-ghost use Rattle.cfg.specs.Build.{numbered, legal_first, short, refusal, Enough, Written, Outcome};
+ghost use Rattle.cfg.specs.Build.{legal_first, short, picture_refusal, Enough, Written, Outcome};
 
 use crate::filling::fill_table;
-use base::edition::{Edition, edition_of, unknown_edition};
+use base::edition::Edition;
 use base::limits::wrong_side;
+use base::refusal::Refusal;
 use colour::palette::WHITE;
 use picture::grid::CodelGrid;
 use picture::shape::shape_of;
 use table::{exits_room, rows_room};
-
-// What a call answers: done, with the count of regions, or a refusal.
-#[derive(Clone, Copy)]
-pub enum Built {
-    Done { regions: usize },
-    UnknownEdition,
-    Size,
-    Codel,
-    Grid,
-    Bytes,
-    Colour { index: usize },
-    White,
-    Room,
-}
 
 // How many colours stand before the first above 19.
 fn legal_first(colours: &[u8]) -> usize
@@ -60,51 +48,47 @@ pub fn codel_count(height: usize, width: usize, codel: usize) -> usize
     s.rows * s.cols
 }
 
-// Building's tests in their order (rules 12.4, 16.1); the lent slices are given by their lengths. Nothing is written.
+// A picture's tests in their order (rule 12.4); the lent slices are given by their lengths. Nothing is written.
 fn check(
     colours: &[u8],
     height: usize,
     width: usize,
     codel: usize,
-    edition: u32,
     map: usize,
     rows: usize,
     exits: usize,
     work: usize,
-) -> Built
-    ensures { numbered result ≡ refusal edition (picture height width codel colours.now) map rows exits work }
+) -> Result<(), Refusal>
+    ensures { tested result ≡ picture_refusal (picture height width codel colours.now) map rows exits work }
 {
-    if unknown_edition(edition) {
-        return Built::UnknownEdition;
-    }
     if wrong_side(height) {
-        return Built::Size;
+        return Err(Refusal::Size);
     }
     if wrong_side(width) {
-        return Built::Size;
+        return Err(Refusal::Size);
     }
     if wrong_side(codel) {
-        return Built::Codel;
+        return Err(Refusal::Codel);
     }
     let count = codel_count(height, width, codel);
     let pixels = height * width;
     if 65536 < count {
-        return Built::Grid;
+        return Err(Refusal::Grid);
     }
     if colours.len() != pixels {
-        return Built::Bytes;
+        return Err(Refusal::Bytes);
     }
     let index = legal_first(colours);
     if index < pixels {
-        return Built::Colour { index };
+        return Err(Refusal::Colour { index });
     }
     if colours[0] == WHITE {
-        return Built::White;
+        return Err(Refusal::White);
     }
     if too_short(count, map, rows, exits, work) {
-        return Built::Room;
+        return Err(Refusal::Room);
     }
-    Built::Done { regions: 0 }
+    Ok(())
 }
 
 // Writes the table to the beginnings of slices that are long enough.
@@ -133,7 +117,7 @@ fn write_table(
 }
 
 // The table of a picture of G codels in the edition of a number: the map, G cells; the region rows, 5G; the exits, 8G; the
-// work slice, G cells, left 0. Where the call is refused, no slice is changed.
+// work slice, G cells, left 0. The count of regions is given. Where the call is refused, no slice is changed.
 pub fn build(
     colours: &[u8],
     height: usize,
@@ -144,26 +128,21 @@ pub fn build(
     rows: &mut [u32],
     exits: &mut [u32],
     work: &mut [u32],
-) -> Built
+) -> Result<usize, Refusal>
     ensures { Outcome edition (picture height width codel colours.now) map.old rows.old exits.old work.old result map.new rows.new exits.new work.new }
 {
-    let answer = check(
+    let known = Edition::try_from(edition)?;
+    check(
         colours,
         height,
         width,
         codel,
-        edition,
         map.len(),
         rows.len(),
         exits.len(),
         work.len(),
-    );
-    if let Built::Done { regions: _ } = answer {
-        let shape = shape_of(height, width, codel);
-        let grid = CodelGrid { colours, shape };
-        let known = edition_of(edition);
-        let n = write_table(grid, known, map, rows, exits, work);
-        return Built::Done { regions: n };
-    }
-    answer
+    )?;
+    let shape = shape_of(height, width, codel);
+    let grid = CodelGrid { colours, shape };
+    Ok(write_table(grid, known, map, rows, exits, work))
 }

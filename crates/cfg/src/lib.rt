@@ -6,4 +6,4 @@ mod filling;
 mod nodes;
 mod search;
 
-pub use building::{Built, build, codel_count, too_short};
+pub use building::{build, codel_count, too_short};

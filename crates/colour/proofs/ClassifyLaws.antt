@@ -8,13 +8,11 @@ use borrow.Author.Tests.{eqb-true, ltb-false, not-false}
 use Rattle.std.specs.Prelude.{None}
 use Rattle.colour.specs.Palette.{rgb, colour_of, pixels_of}
 use Rattle.base.specs.Limits.{wrong_side}
-use Rattle.colour.specs.Classify.{numbered, answer, refusals, found}
+use Rattle.colour.specs.Classify.{answer, refusals, found}
 use Rattle.base.proofs.Tests.{neither}
 use Rattle.base.proofs.Sides.{side}
 use Rattle.base.proofs.Refusals.{passed}
-use Rattle.base.specs.Numbers.{numbers, unless_refused}
-use Rattle.colour.specs.declared.classify.Classified.{Classified}
-use Rattle.colour.specs.declared.classify.Classified.TheVariants.{Done, Size, Setting, Bytes, Room, Pixel}
+use Rattle.base.specs.Numbers.{numbers}
 
 pub found_at : (p : List ℕ) (i : ℕ) → 3 * i + 2 < length p
     → get_or (found p) i None ≡ colour_of (rgb (get_or p (3 * i) 0) (get_or p (3 * i + 1) 0) (get_or p (3 * i + 2) 0))
@@ -62,11 +60,3 @@ accepted p h w s room v e =
       bytes = eqb-true _ _ (not-false _ d.0);
       fits = ltb-false _ _ f.0;
     }
-
-pub kept : (r : Classified) (new old : List ℕ) → (r ≡ Done → ⊥) → unless_refused (numbered r) new old ≡ old
-kept Done new old h = absurd (h refl)
-kept Size new old h = refl
-kept Setting new old h = refl
-kept Bytes new old h = refl
-kept Room new old h = refl
-kept (Pixel r c) new old h = refl

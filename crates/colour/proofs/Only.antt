@@ -1,70 +1,34 @@
 -- Two outcomes that a contract allows for one input are equal, answer and lent list, for each public function:
 --     classify                                       classify_only
 --     check                                          check_only
---     in_numbers, placeless                          told_only
 --     label                                          label_only
 --     pair_table                                     pair_table_only
 --     found_at, colour_under, decode, decode_in,
 --     no_setting, refuses, substitute                `equation_only` of base's proofs/Only.antt
 -- Assumes nothing.
 use mathlib.Core.Path.{◌≡◌, ◌∙◌, sym, ap, refl}
+use mathlib.Core.Bool.{Bool, true, false}
 use mathlib.Core.List.{List, [], ◌∷◌}
-use Prim.Native.Nat.{ℕ, zero, suc, ◌<◌, ◌≤◌}
+use Prim.Native.Nat.{ℕ, ◌<◌, ◌≤◌}
 use native.Mathlib.Omega.{arith}
 use lib.ListN.{length, get_or}
 use lib.Seq.{ext_get_or}
 use Rattle.base.specs.Lent.{lent}
-use Rattle.base.specs.Numbers.{Numbers, numbers, unless_refused}
+use Rattle.base.specs.Numbers.{Numbers, numbers, number_of, row, first, unless_refused}
 use Rattle.colour.specs.Classify as classify
 use Rattle.colour.specs.Label as label
 use Rattle.colour.specs.Lookup.{DecodesPairs}
 use Rattle.colour.specs.Palette.{white}
-use Rattle.colour.specs.declared.classify.Classified.{Classified}
-use Rattle.colour.specs.declared.classify.Classified.TheVariants.{Done, Size, Setting, Bytes, Room, Pixel}
-use Rattle.colour.specs.declared.classify.Told.{Told}
-use Rattle.colour.specs.declared.label.Labelled.{Labelled}
-use Rattle.colour.specs.declared.label.Labelled.TheVariants.{Done as Labels, Label}
-
--- the answer's number (rule 12.2) and values name one case
-abbrev classified_of : Numbers → Classified
-classified_of (numbers zero v) = Done
-classified_of (numbers (suc zero) v) = Size
-classified_of (numbers (suc (suc zero)) v) = Bytes
-classified_of (numbers (suc (suc (suc zero))) v) = Setting
-classified_of (numbers (suc (suc (suc (suc zero)))) v) = Room
-classified_of (numbers (suc (suc (suc (suc (suc n))))) v) = Pixel (get_or v 0 0) (get_or v 1 0)
-
-classified : (r : Classified) → classified_of (classify.numbered r) ≡ r
-classified Done = refl
-classified Size = refl
-classified Bytes = refl
-classified Setting = refl
-classified Room = refl
-classified (Pixel r c) = refl
-
-abbrev labelled_of : Numbers → Labelled
-labelled_of (numbers zero v) = Labels (get_or v 0 0)
-labelled_of (numbers (suc n) v) = Label
-
-labelled : (r : Labelled) → labelled_of (label.numbered r) ≡ r
-labelled (Labels n) = refl
-labelled Label = refl
+use Rattle.std.specs.Prelude.{Result}
+use Rattle.base.specs.declared.refusal.Refusal.{Refusal}
+use Rattle.base.proofs.RefusalLaws.{Placeless, answered_only, placed_only}
 
 -- a contract `numbered r ≡ n`
-pub check_only : {n : Numbers} {r r' : Classified} → classify.numbered r ≡ n → classify.numbered r' ≡ n → r ≡ r'
-check_only {r = r} {r' = r'} p q = sym (classified r) ∙ ap classified_of (p ∙ sym q) ∙ classified r'
-
--- a contract of the number, the row and the column
-pub told_only : {n : Numbers} {t t' : Told} → numbers t.number (t.row ∷ t.column ∷ []) ≡ n → numbers t'.number (t'.row ∷ t'.column ∷ []) ≡ n
-    → t ≡ t'
-told_only {t = t} {t' = t'} p q =
-    let e : t.number ≡ t'.number = cc in
-    let f : t.row ≡ t'.row = cc in
-    let g : t.column ≡ t'.column = cc in
-    λ i. record { number = e i; row = f i; column = g i }
+pub check_only : {n : Numbers} {r r' : Result (Unit {0}) Refusal} → classify.numbered r ≡ n → classify.numbered r' ≡ n → r ≡ r'
+check_only {r = r} {r' = r'} p q = placed_only _ (λ t u e. refl) r r' (p ∙ sym q)
 
 -- two outcomes that `classify` may have for one input are one
-pub classify_only : {p : List ℕ} {h w s : ℕ} {before : List ℕ} {r r' : Classified} {after after' : List ℕ}
+pub classify_only : {p : List ℕ} {h w s : ℕ} {before : List ℕ} {r r' : Result (Unit {0}) Refusal} {after after' : List ℕ}
     → classify.Outcome p h w s before r after → classify.Outcome p h w s before r' after' → (r ≡ r') × (after ≡ after')
 classify_only {p} {h} {w} {s} {before} {r} {r'} o o' =
     let e : classify.numbered r ≡ classify.numbered r' = o.answers ∙ sym o'.answers in (
@@ -72,12 +36,21 @@ classify_only {p} {h} {w} {s} {before} {r} {r'} o o' =
       o.leaves ∙ ap (λ (n : Numbers). unless_refused n (lent (classify.colours_under p s) before) before) e ∙ sym o'.leaves,
     )
 
+-- a label's answer names no place
+label_placeless : (colour x y room : ℕ) (r : Result ℕ Refusal) → label.numbered r ≡ label.answer colour x y room → Placeless (number_of (label.numbered r))
+unfolding label.answer first
+label_placeless colour x y room r e = rw e (by_test (label.refused colour x y room))
+  where
+    by_test : (b : Bool) → Placeless (number_of (first (row b (numbers 12 (0 ∷ [])) ∷ []) (numbers 0 (length (label.label_of colour x y) ∷ []))))
+    by_test true = (λ h. omega arith, λ h. omega arith)
+    by_test false = (λ h. omega arith, λ h. omega arith)
+
 -- two outcomes that `label` may have for one input are one
-pub label_only : {colour x y : ℕ} {before : List ℕ} {r r' : Labelled} {after after' : List ℕ}
+pub label_only : {colour x y : ℕ} {before : List ℕ} {r r' : Result ℕ Refusal} {after after' : List ℕ}
     → label.Outcome colour x y before r after → label.Outcome colour x y before r' after' → (r ≡ r') × (after ≡ after')
 label_only {colour} {x} {y} {before} {r} {r'} o o' =
     let e : label.numbered r ≡ label.numbered r' = o.answers ∙ sym o'.answers in (
-      sym (labelled r) ∙ ap labelled_of e ∙ labelled r',
+      answered_only _ (λ t u e. ap (λ (v : List ℕ). get_or v 0 0) e) _ r r' (label_placeless colour x y (length before) r o.answers) e,
       o.leaves ∙ ap (λ (n : Numbers). unless_refused n (lent (label.padded (label.label_of colour x y)) before) before) e ∙ sym o'.leaves,
     )
 

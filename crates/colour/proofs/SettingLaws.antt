@@ -10,7 +10,8 @@ use Rattle.std.specs.Prelude.{Option, Some, None}
 use Rattle.base.specs.Numbers.{Numbers, numbers, Row, row, first}
 use Rattle.base.proofs.Refusals.{refused, passed, another, holds, no_row}
 use Rattle.base.proofs.Tests.{and_both}
-use Rattle.colour.specs.declared.classify.Classified.{Classified}
+use Rattle.std.specs.Prelude.{Result}
+use Rattle.base.specs.declared.refusal.Refusal.{Refusal}
 use Rattle.colour.specs.Setting.{refusing, refuses}
 use Rattle.colour.specs.Classify.{found, known_first, colour_under, colours_under, unknown_pixel, refusals, answer, Outcome}
 use Rattle.colour.proofs.FirstUnknown.{known_before}
@@ -29,7 +30,7 @@ unfolding refusals
 default_refusals pixels height width room = refl
 
 -- what a call may do under 0 it may do under 2, and the other way round
-pub default_outcome : {pixels : List ℕ} {height width : ℕ} {before : List ℕ} {r : Classified} {after : List ℕ}
+pub default_outcome : {pixels : List ℕ} {height width : ℕ} {before : List ℕ} {r : Result (Unit {0}) Refusal} {after : List ℕ}
     → (Outcome pixels height width 0 before r after → Outcome pixels height width 2 before r after)
     × (Outcome pixels height width 2 before r after → Outcome pixels height width 0 before r after)
 unfolding answer refusals

@@ -1,21 +1,16 @@
 -- Classifying: refusals 1, 3, 2, 4, 5 in this order (rule 12.3), and what is written (rules 1.2, 1.3). Assumes nothing.
-use Rattle.std.specs.Prelude.{◌≡◌, Bool, not, ◌&&◌, ◌||◌, List, [], ◌∷◌, map, ℕ, suc, ◌*◌, ◌/◌, ◌%◌, eqb, ltb, length, Option, Some, None, unwrap_or}
-use Rattle.colour.specs.declared.classify.Classified.{Classified}
-use Rattle.colour.specs.declared.classify.Classified.TheVariants.{Done, Size, Setting, Bytes, Room, Pixel}
+use Rattle.std.specs.Prelude.{◌≡◌, Bool, not, ◌&&◌, ◌||◌, List, [], ◌∷◌, map, ℕ, suc, ◌*◌, ◌/◌, ◌%◌, eqb, ltb, length, Option, Some, None, unwrap_or, Result}
+use Rattle.base.specs.declared.refusal.Refusal.{Refusal}
 use Rattle.base.specs.Numbers.{Numbers, numbers, Row, row, first, unless_refused}
+use Rattle.base.specs.Refusal.{tested}
 use Rattle.base.specs.Lent.{lent}
 use Rattle.base.specs.Limits.{wrong_side}
 use Rattle.colour.specs.Palette.{colour_of, pixels_of}
 use Rattle.colour.specs.Setting.{no_setting, refuses, substitute}
 
 -- the answer's number (rule 12.2), and the row and the column, zeros where there is none
-abbrev pub numbered : Classified → Numbers
-numbered Done = numbers 0 (0 ∷ 0 ∷ [])
-numbered Size = numbers 1 (0 ∷ 0 ∷ [])
-numbered Bytes = numbers 2 (0 ∷ 0 ∷ [])
-numbered Setting = numbers 3 (0 ∷ 0 ∷ [])
-numbered Room = numbers 4 (0 ∷ 0 ∷ [])
-numbered (Pixel r c) = numbers 5 (r ∷ c ∷ [])
+abbrev pub numbered : Result (Unit {0}) Refusal → Numbers
+numbered = tested
 
 -- how many colours stand before the first that is unknown
 unfoldable pub known_first : List (Option ℕ) → ℕ
@@ -54,6 +49,6 @@ unfoldable pub colours_under : List ℕ → ℕ → List ℕ
 colours_under pixels setting = map (colour_under setting) (found pixels)
 
 -- what a call answers and leaves
-pub record Outcome (pixels : List ℕ) (height width setting : ℕ) (before : List ℕ) (r : Classified) (after : List ℕ) : Type 0 where
+pub record Outcome (pixels : List ℕ) (height width setting : ℕ) (before : List ℕ) (r : Result (Unit {0}) Refusal) (after : List ℕ) : Type 0 where
   pub answers : numbered r ≡ answer pixels height width setting (length before)
   pub leaves : after ≡ unless_refused (numbered r) (lent (colours_under pixels setting) before) before

@@ -1,8 +1,8 @@
 -- Region labels, byte for byte as the Rust writes them (rule 3.5), and refusal 12 (rule 12.7). Assumes nothing.
-use Rattle.std.specs.Prelude.{◌≡◌, Bool, cond, ◌&&◌, ◌||◌, List, [], ◌∷◌, ◌++◌, ℕ, ◌-◌, ◌/◌, ◌%◌, eqb, ltb, length, get_or, replicate}
-use Rattle.colour.specs.declared.label.Labelled.{Labelled}
-use Rattle.colour.specs.declared.label.Labelled.TheVariants.{Done, Label}
+use Rattle.std.specs.Prelude.{◌≡◌, Bool, cond, ◌&&◌, ◌||◌, List, [], ◌∷◌, ◌++◌, ℕ, ◌-◌, ◌/◌, ◌%◌, eqb, ltb, length, get_or, replicate, Result}
+use Rattle.base.specs.declared.refusal.Refusal.{Refusal}
 use Rattle.base.specs.Numbers.{Numbers, numbers, row, first, unless_refused}
+use Rattle.base.specs.Refusal.{answered}
 use Rattle.base.specs.Lent.{lent}
 use Rattle.base.specs.Text.{ascii, decimal}
 use Rattle.colour.specs.Palette.{black, white}
@@ -29,9 +29,8 @@ unfoldable pub label_of : ℕ → ℕ → ℕ → List ℕ
 label_of colour r c = cond (is_entry r c) (ascii "Entry") (name colour ++ place r ++ place c)
 
 -- the answer's number (rule 12.2), and the label's length
-abbrev pub numbered : Labelled → Numbers
-numbered (Done n) = numbers 0 (n ∷ [])
-numbered Label = numbers 12 (0 ∷ [])
+abbrev pub numbered : Result ℕ Refusal → Numbers
+numbered = answered (λ n. n ∷ []) (λ r. 0 ∷ [])
 
 -- refusal 12 (rule 12.2): no such colour, a row or a column out of bounds, or too few bytes lent
 abbrev pub refused : ℕ → ℕ → ℕ → ℕ → Bool
@@ -47,6 +46,6 @@ unfoldable pub padded : List ℕ → List ℕ
 padded label = label ++ replicate (22 - length label) 0
 
 -- what a call answers and leaves
-pub record Outcome (colour r c : ℕ) (before : List ℕ) (a : Labelled) (after : List ℕ) : Type 0 where
+pub record Outcome (colour r c : ℕ) (before : List ℕ) (a : Result ℕ Refusal) (after : List ℕ) : Type 0 where
   pub answers : numbered a ≡ answer colour r c (length before)
   pub leaves : after ≡ unless_refused (numbered a) (lent (padded (label_of colour r c)) before) before

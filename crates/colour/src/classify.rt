@@ -20,54 +20,7 @@ use crate::setting::{no_setting, refuses, substitute};
 use crate::stretch::alike;
 use base::fill::fill;
 use base::limits::wrong_side;
-
-// What a call answers: done, or a refusal, with the place of an unknown pixel.
-#[derive(Clone, Copy)]
-pub enum Classified {
-    Done,
-    Size,
-    Setting,
-    Bytes,
-    Room,
-    Pixel { row: usize, column: usize },
-}
-
-// An answer in numbers: its own (rule 12.2), and the place of an unknown pixel, zeros where there is none.
-#[derive(Clone, Copy)]
-pub struct Told {
-    pub number: u32,
-    pub row: usize,
-    pub column: usize,
-}
-
-// A number without a place.
-pub fn placeless(number: u32) -> Told
-    ensures { numbers result.number (result.row ∷ result.column ∷ []) ≡ numbers number (0 ∷ 0 ∷ []) }
-{
-    Told {
-        number,
-        row: 0,
-        column: 0,
-    }
-}
-
-// `run_picture` and the C call both answer by it.
-pub fn in_numbers(r: Classified) -> Told
-    ensures { numbers result.number (result.row ∷ result.column ∷ []) ≡ numbered r }
-{
-    match r {
-        Classified::Done => placeless(0),
-        Classified::Size => placeless(1),
-        Classified::Bytes => placeless(2),
-        Classified::Setting => placeless(3),
-        Classified::Room => placeless(4),
-        Classified::Pixel { row, column } => Told {
-            number: 5,
-            row,
-            column,
-        },
-    }
-}
+use base::refusal::Refusal;
 
 // What the palette says of pixel i.
 fn found_in(palette: &[u32], likely: &[u8], pixels: &[u8], i: usize) -> Option<u8>
@@ -112,45 +65,50 @@ fn known_first(pixels: &[u8], n: usize) -> usize
 }
 
 // The answer under a setting that refuses unknown pixels.
-fn first_unknown(pixels: &[u8], n: usize, width: usize) -> Classified
+fn first_unknown(pixels: &[u8], n: usize, width: usize) -> Result<(), Refusal>
     requires { (length pixels.now ≡ 3 * n) × (0 < width) }
     ensures { numbered result ≡ first (unknown_pixel true pixels.now n width ∷ []) (numbers 0 (0 ∷ 0 ∷ [])) }
 {
     let k = known_first(pixels, n);
     if k < n {
-        Classified::Pixel {
+        return Err(Refusal::Pixel {
             row: k / width,
             column: k % width,
-        }
-    } else {
-        Classified::Done
+        });
     }
+    Ok(())
 }
 
 // Classifying's tests in their order (rule 12.3). Nothing is written.
-pub fn check(pixels: &[u8], height: usize, width: usize, setting: u8, room: usize) -> Classified
+pub fn check(
+    pixels: &[u8],
+    height: usize,
+    width: usize,
+    setting: u8,
+    room: usize,
+) -> Result<(), Refusal>
     ensures { numbered result ≡ answer pixels.now height width setting room }
 {
     if wrong_side(height) {
-        return Classified::Size;
+        return Err(Refusal::Size);
     }
     if wrong_side(width) {
-        return Classified::Size;
+        return Err(Refusal::Size);
     }
     let n = height * width;
     if no_setting(setting) {
-        return Classified::Setting;
+        return Err(Refusal::Setting);
     }
     if pixels.len() != 3 * n {
-        return Classified::Bytes;
+        return Err(Refusal::Bytes);
     }
     if room < n {
-        return Classified::Room;
+        return Err(Refusal::Room);
     }
     if refuses(setting) {
         return first_unknown(pixels, n, width);
     }
-    Classified::Done
+    Ok(())
 }
 
 // The colour number that a setting makes of what the palette says.
@@ -191,12 +149,10 @@ pub fn classify(
     width: usize,
     setting: u8,
     colours: &mut [u8],
-) -> Classified
+) -> Result<(), Refusal>
     ensures { Outcome pixels.now height width setting colours.old result colours.new }
 {
-    let answer = check(pixels, height, width, setting, colours.len());
-    if let Classified::Done = answer {
-        paint(pixels, height * width, setting, colours);
-    }
-    answer
+    check(pixels, height, width, setting, colours.len())?;
+    paint(pixels, height * width, setting, colours);
+    Ok(())
 }

@@ -6,13 +6,7 @@ ghost use Rattle.colour.specs.Label.{lightness_name, hue_name, name, place, is_e
 use crate::palette::{BLACK, WHITE};
 use base::fill::fill;
 use base::put::{put_number, put_word};
-
-// What a call answers: the label's length, or refusal 12.
-#[derive(Clone, Copy)]
-pub enum Labelled {
-    Done { length: usize },
-    Label,
-}
+use base::refusal::Refusal;
 
 // `Lightness`: dark, regular, light.
 fn put_lightness(out: &mut [u8], k: u8) -> usize
@@ -101,14 +95,14 @@ fn refuses(colour: u8, row: usize, column: usize, room: usize) -> bool
     room < 22
 }
 
-// The label of a region of a colour whose first pixel stands at a row and a column.
-pub fn label(colour: u8, row: usize, column: usize, out: &mut [u8]) -> Labelled
+// The label of a region of a colour whose first pixel stands at a row and a column. Its length is given, or refusal 12.
+pub fn label(colour: u8, row: usize, column: usize, out: &mut [u8]) -> Result<usize, Refusal>
     ensures { Outcome colour row column out.old result out.new }
 {
     if refuses(colour, row, column, out.len()) {
-        return Labelled::Label;
+        return Err(Refusal::Label);
     }
     let n = put_label(out, colour, row, column);
     fill(out, n, 22, 0);
-    Labelled::Done { length: n }
+    Ok(n)
 }

@@ -10,14 +10,14 @@
 use mathlib.Core.Path.{◌≡◌, refl, sym, ap, ap₂, ◌∙◌}
 use mathlib.Core.Bool.{Bool, true, false, cond}
 use mathlib.Core.List.{List, [], ◌∷◌}
-use Prim.Native.Nat.{ℕ, suc}
-use lib.ListN.{length, get_or}
+use Prim.Native.Nat.{ℕ}
+use lib.ListN.{length, replicate}
 use native.Mathlib.Omega.{arith}
 use borrow.Author.Tests.{not-true, not-false}
 use Rattle.base.specs.declared.edition.Edition.{Edition}
 use Rattle.base.specs.declared.edition.Edition.TheVariants.{Rust}
 use Rattle.base.specs.Edition.{unknown_edition, edition_of}
-use Rattle.base.specs.Numbers.{Numbers, numbers, row, first, unless_refused, values_of, number_of}
+use Rattle.base.specs.Numbers.{Numbers, numbers, row, first, unless_refused}
 use Rattle.base.proofs.Clash.{clash}
 use Rattle.machine.specs.declared.Stop.{Stop}
 use Rattle.machine.specs.declared.Stop.TheVariants.{Completed, MaxSteps, NeedsInput, StackFull, OutputFull, BadInput}
@@ -25,10 +25,11 @@ use Rattle.machine.specs.Machine.{Asks, given_of, status_of}
 use Rattle.machine.specs.Held.{Slices}
 use Rattle.machine.specs.Place.{start, End}
 use Rattle.interpreter.specs.declared.Ended.{Ended}
-use Rattle.interpreter.specs.declared.Ran.{Ran}
-use Rattle.interpreter.specs.declared.Ran.TheVariants.{Refused, Finished}
-use Rattle.interpreter.specs.declared.Forever.{Forever}
-use Rattle.interpreter.specs.declared.Forever.TheVariants as Verdict
+use Rattle.std.specs.Prelude.{Result, Ok, Err}
+use Rattle.base.specs.Refusal.{number_of_refusal}
+use Rattle.base.specs.declared.refusal.Refusal.{Refusal}
+use Rattle.base.specs.declared.refusal.Refusal.TheVariants.{Table}
+use Rattle.base.proofs.RefusalLaws.{Placeless, refused_only, never_done, kept as kept_by}
 use Rattle.interpreter.specs.Table.{wrong_table, valid_of, every}
 use Rattle.interpreter.specs.Forever as Always
 use Rattle.interpreter.specs.Outcome.{slices_of, ended_of, result_of, result_cells, refused, numbered, job_of, end_of, answer, Outcome}
@@ -93,12 +94,12 @@ module _ (n : ℕ) (rows exits : List ℕ) (a : Asks) (l : Slices) where
   abbrev left : Numbers → Slices
   left x = unless_refused x (slices_of l end.at.store) l
 
-  pub run_refuses : (k : ℕ) → answer n rows exits a l ≡ refused (suc k) → Outcome n rows exits a l (Refused (suc k)) l
+  pub run_refuses : (r : Refusal) → answer n rows exits a l ≡ refused (number_of_refusal r) → Outcome n rows exits a l (Err r) l
   unfolding numbered
-  run_refuses k e = record { answers = sym e; ends = λ x h. clash cc; leaves = sym (ap left e) }
+  run_refuses r e = record { answers = sym e; ends = λ x h. clash cc; leaves = sym (ap left e ∙ kept_by r _ _ _) }
 
   pub run_finishes : {r : Ended} {l' : Slices} → answer n rows exits a l ≡ numbers 0 (result_of (ended_of end)) → r ≡ ended_of end
-      → l' ≡ slices_of l end.at.store → Outcome n rows exits a l (Finished r) l'
+      → l' ≡ slices_of l end.at.store → Outcome n rows exits a l (Ok r) l'
   unfolding numbered
   run_finishes {r} e p q = record {
     answers = ap (λ (x : Ended). numbers 0 (result_of x)) p ∙ sym e;
@@ -106,7 +107,7 @@ module _ (n : ℕ) (rows exits : List ℕ) (a : Asks) (l : Slices) where
     leaves = q ∙ sym (ap left e);
   }
     where
-      same : {x : Ended} → Finished r ≡ Finished x → x ≡ r
+      same : {x : Ended} → ◌≡◌ {A = Result Ended Refusal} (Ok r) (Ok x) → x ≡ r
       same h = cc
 
   -- the same with the exits recorded
@@ -115,59 +116,48 @@ module _ (n : ℕ) (rows exits : List ℕ) (a : Asks) (l : Slices) where
     abbrev kept : List ℕ → Numbers → List ℕ
     kept ws x = unless_refused x (taken_of ws taken) taken
 
-    pub record_refuses : (k : ℕ) → answer n rows exits a l ≡ refused (suc k) → Recorded n rows exits a l taken (Refused (suc k)) l taken
-    record_refuses k e =
+    pub record_refuses : (r : Refusal) → answer n rows exits a l ≡ refused (number_of_refusal r) → Recorded n rows exits a l taken (Err r) l taken
+    record_refuses r e =
         let h = run_history (job_of rows exits (given_of a) l) a.limit start in
-        record { run = run_refuses k e; history = h; leaves = sym (ap (kept h.exits) e) }
+        record { run = run_refuses r e; history = h; leaves = sym (ap (kept h.exits) e ∙ kept_by r _ _ _) }
 
     pub record_finishes : {r : Ended} {l' : Slices} {taken' : List ℕ} (e : answer n rows exits a l ≡ numbers 0 (result_of (ended_of end)))
-        → Outcome n rows exits a l (Finished r) l' → (h : History (job_of rows exits (given_of a) l) a.limit start end) → taken' ≡ taken_of h.exits taken
-        → Recorded n rows exits a l taken (Finished r) l' taken'
+        → Outcome n rows exits a l (Ok r) l' → (h : History (job_of rows exits (given_of a) l) a.limit start end) → taken' ≡ taken_of h.exits taken
+        → Recorded n rows exits a l taken (Ok r) l' taken'
     record_finishes e o h q = record { run = o; history = h; leaves = q ∙ sym (ap (kept h.exits) e) }
 
     -- what the list is by the history
-    pub recorded : {r : Ran} {l' : Slices} {taken' : List ℕ} (o : Recorded n rows exits a l taken r l' taken')
+    pub recorded : {r : Result Ended Refusal} {l' : Slices} {taken' : List ℕ} (o : Recorded n rows exits a l taken r l' taken')
         → answer n rows exits a l ≡ numbers 0 (result_of (ended_of end)) → taken' ≡ taken_of o.history.exits taken
     recorded o e = o.leaves ∙ ap (kept o.history.exits) e
 
-  module _ {r : Ran} {l' : Slices} (o : Outcome n rows exits a l r l') where
-    pub refuses : (k : ℕ) → answer n rows exits a l ≡ refused (suc k) → (r ≡ Refused (suc k)) × (l' ≡ l)
+  module _ {r : Result Ended Refusal} {l' : Slices} (o : Outcome n rows exits a l r l') where
+    -- refusals of a run name no place
+    pub refuses : (s : Refusal) → Placeless (number_of_refusal s) → answer n rows exits a l ≡ refused (number_of_refusal s) → (r ≡ Err s) × (l' ≡ l)
     unfolding numbered
-    refuses k e = (named r (o.answers ∙ e), o.leaves ∙ ap left e)
-      where
-        named : (r : Ran) → numbered r ≡ refused (suc k) → r ≡ Refused (suc k)
-        named (Refused i) h = ap (λ (x : Numbers). Refused (number_of x)) h
-        named (Finished x) h = let z : 0 ≡ suc k = ap number_of h in absurd (omega arith)
+    refuses s p e = (refused_only result_of (λ k. replicate result_cells 0) s _ p r (o.answers ∙ e), o.leaves ∙ ap left e ∙ kept_by s _ _ _)
 
-    pub finishes : answer n rows exits a l ≡ numbers 0 (result_of (ended_of end)) → (r ≡ Finished (ended_of end)) × (l' ≡ slices_of l end.at.store)
+    pub finishes : answer n rows exits a l ≡ numbers 0 (result_of (ended_of end)) → (r ≡ Ok (ended_of end)) × (l' ≡ slices_of l end.at.store)
     unfolding numbered
     finishes e = (named r refl (o.answers ∙ e), o.leaves ∙ ap left e)
       where
-        status-of : Numbers → ℕ
-        status-of x = get_or (values_of x) 0 0
-
-        named : (x : Ran) → r ≡ x → numbered x ≡ numbers 0 (result_of (ended_of end)) → x ≡ Finished (ended_of end)
-        named (Refused k) q h = absurd (status_some end.stop (sym (ap status-of h)))
-        named (Finished x) q h = ap Finished (o.ends x q)
-
--- yes and no, by the test of the rows
-unfoldable pub verdict_of : Bool → Forever
-verdict_of true = Verdict.Yes
-verdict_of false = Verdict.No
+        named : (x : Result Ended Refusal) → r ≡ x → numbered x ≡ numbers 0 (result_of (ended_of end)) → x ≡ Ok (ended_of end)
+        named (Err k) q h = absurd (never_done k _ _ h)
+        named (Ok x) q h = ap Ok (o.ends x q)
 
 module _ (n : ℕ) (rows exits : List ℕ) where
   abbrev judged : Bool → Bool → Numbers
   judged invalid all = first (row invalid (numbers 10 (0 ∷ [])) ∷ []) (numbers 0 (cond all 1 0 ∷ []))
 
-  pub forever_refuses : valid_of Rust n rows exits ≡ false → Always.numbered Verdict.Refused ≡ Always.answer n rows exits
+  pub forever_refuses : valid_of Rust n rows exits ≡ false → Always.numbered (Err Table) ≡ Always.answer n rows exits
   unfolding first Always.numbered
   forever_refuses v = sym (ap (λ (t : Bool). judged t (every (Always.onward rows exits) n)) (not-false (wrong_table Rust n rows exits) v))
 
   pub forever_is : (t : Bool) → valid_of Rust n rows exits ≡ true → every (Always.onward rows exits) n ≡ t
-      → Always.numbered (verdict_of t) ≡ Always.answer n rows exits
-  unfolding first Always.numbered verdict_of
+      → Always.numbered (Ok t) ≡ Always.answer n rows exits
+  unfolding first Always.numbered
   forever_is t v a = go t ∙ sym (ap₂ judged (not-true (wrong_table Rust n rows exits) v) a)
     where
-      go : (t : Bool) → Always.numbered (verdict_of t) ≡ judged false t
+      go : (t : Bool) → Always.numbered (Ok t) ≡ judged false t
       go true = refl
       go false = refl

@@ -20,7 +20,9 @@ use Rattle.machine.specs.Held.{Slices, slices}
 use Rattle.interpreter.specs.Table.{open_from, any, every}
 use Rattle.interpreter.specs.Forever as Forever
 use Rattle.interpreter.specs.Run.{arrive, after, run_of}
-use Rattle.interpreter.specs.declared.Ran.{Ran}
+use Rattle.std.specs.Prelude.{Result}
+use Rattle.base.specs.declared.refusal.Refusal.{Refusal}
+use Rattle.interpreter.specs.declared.Ended.{Ended}
 use Rattle.interpreter.specs.History.{History, stays, passes}
 use Rattle.interpreter.specs.Outcome.{refused, job_of, end_of, answer, left_of}
 use Rattle.interpreter.specs.Recorded.{taken_of, Recorded}
@@ -53,7 +55,7 @@ unfolding attempt_of pop status_of exec fitting open_from any arrive after run_o
 job = (refl, refl)
 
 -- its exits, in more cells than it has steps, and in fewer (rule 18.1)
-pub kept : {r : Ran} {l' : Slices} {t : List ℕ}
+pub kept : {r : Result Ended Refusal} {l' : Slices} {t : List ℕ}
     → (Recorded 2 rows exits (with 3 false) used (7 ∷ 7 ∷ 7 ∷ 7 ∷ []) r l' t → t ≡ 524290 ∷ 1310721 ∷ 524290 ∷ 7 ∷ [])
     × (Recorded 2 rows exits (with 3 false) used (7 ∷ 7 ∷ []) r l' t → t ≡ 524290 ∷ 1310721 ∷ [])
 unfolding attempt_of pop exec fitting open_from any arrive after run_of first lent

@@ -16,7 +16,6 @@ use mathlib.Core.Bool.{Bool, true, false, not, cond}
 use mathlib.Core.List.{List, [], ◌∷◌, map}
 use Prim.Native.Nat.{ℕ, zero, suc, ◌+◌, ◌<◌, ◌≤◌}
 use native.Mathlib.Omega.{arith}
-use lib.Dec.{eqb}
 use lib.ListN.{length, get_or, take, length-take}
 use lib.Seq.{ext_get_or, get_or-take}
 use Rattle.base.specs.declared.edition.Edition.TheVariants.{Rust}
@@ -33,9 +32,10 @@ use Rattle.machine.specs.Held.{Slices}
 use Rattle.machine.proofs.Only.{AsLong}
 use Rattle.interpreter.specs.declared.State.{State}
 use Rattle.interpreter.specs.declared.Ended.{Ended}
-use Rattle.interpreter.specs.declared.Ran.{Ran}
-use Rattle.interpreter.specs.declared.Forever.{Forever}
-use Rattle.interpreter.specs.declared.Forever.TheVariants.{Refused, Yes, No}
+use Rattle.std.specs.Prelude.{Result, Ok, Err}
+use Rattle.base.specs.declared.refusal.Refusal as refusals
+use Rattle.base.specs.declared.refusal.Refusal.TheVariants.{Edition, Table}
+use Rattle.base.proofs.RefusalLaws.{past_places, refused_only, never_done}
 use Rattle.interpreter.specs.Table.{wrong_table, valid_of, every}
 use Rattle.interpreter.specs.Forever as Always
 use Rattle.interpreter.specs.declared.stepping.Moved.{Moved}
@@ -51,54 +51,54 @@ use Rattle.interpreter.proofs.Settled.{settled}
 use Rattle.interpreter.proofs.Answering.{Tested, unknown, wrong, right, test_call, answer_unknown, answer_wrong, answer_right, refuses, finishes, recorded}
 
 module _ (n : ℕ) (rows exits : List ℕ) (a : Asks) (l : Slices) where
-  pub run_only : {r r' : Ran} {l' l'' : Slices} → Outcome n rows exits a l r l' → Outcome n rows exits a l r' l'' → (r ≡ r') × (l' ≡ l'')
+  pub run_only : {r r' : Result Ended refusals.Refusal} {l' l'' : Slices} → Outcome n rows exits a l r l' → Outcome n rows exits a l r' l'' → (r ≡ r') × (l' ≡ l'')
   run_only {r} {r'} {l'} {l''} p q = go (test_call n rows exits a l)
     where
-      same : {x : Ran} {y : Slices} → (r ≡ x) × (l' ≡ y) → (r' ≡ x) × (l'' ≡ y) → (r ≡ r') × (l' ≡ l'')
+      same : {x : Result Ended refusals.Refusal} {y : Slices} → (r ≡ x) × (l' ≡ y) → (r' ≡ x) × (l'' ≡ y) → (r ≡ r') × (l' ≡ l'')
       same u v = (u.0 ∙ sym v.0, u.1 ∙ sym v.1)
 
       go : Tested n rows exits a l → (r ≡ r') × (l' ≡ l'')
       go (unknown u) =
           let h = answer_unknown n rows exits a l u in
-          same (refuses n rows exits a l p 14 h) (refuses n rows exits a l q 14 h)
+          same (refuses n rows exits a l p Edition (past_places (omega arith)) h) (refuses n rows exits a l q Edition (past_places (omega arith)) h)
       go (wrong u v) =
           let h = answer_wrong n rows exits a l u v in
-          same (refuses n rows exits a l p 9 h) (refuses n rows exits a l q 9 h)
+          same (refuses n rows exits a l p Table (past_places (omega arith)) h) (refuses n rows exits a l q Table (past_places (omega arith)) h)
       go (right u v) =
           let h = answer_right n rows exits a l u v in
           same (finishes n rows exits a l p h) (finishes n rows exits a l q h)
 
   -- 15 exactly where the edition is unknown, else 10 exactly where the table is not valid in it (rule 12.6), and then what is
   -- lent is as it was (rule 12.1)
-  pub record Refusal (r : Ran) (l' : Slices) : Type 0 where
+  pub record Refusal (r : Result Ended refusals.Refusal) (l' : Slices) : Type 0 where
     pub edition : unknown_edition a.edition ≡ true → (numbered r ≡ refused 15) × (l' ≡ l)
     pub table : unknown_edition a.edition ≡ false → valid_of (edition_of a.edition) n rows exits ≡ false → (numbered r ≡ refused 10) × (l' ≡ l)
     pub none : unknown_edition a.edition ≡ false → valid_of (edition_of a.edition) n rows exits ≡ true → number_of (numbered r) ≡ 0
 
-  pub run_refusal : {r : Ran} {l' : Slices} → Outcome n rows exits a l r l' → Refusal r l'
+  pub run_refusal : {r : Result Ended refusals.Refusal} {l' : Slices} → Outcome n rows exits a l r l' → Refusal r l'
   unfolding numbered
   run_refusal {r} {l'} o = record {
     edition =
         λ u.
-        let x = refuses n rows exits a l o 14 (answer_unknown n rows exits a l u) in
+        let x = refuses n rows exits a l o Edition (past_places (omega arith)) (answer_unknown n rows exits a l u) in
         (ap numbered x.0, x.1);
     table =
         λ u v.
-        let x = refuses n rows exits a l o 9 (answer_wrong n rows exits a l u v) in
+        let x = refuses n rows exits a l o Table (past_places (omega arith)) (answer_wrong n rows exits a l u v) in
         (ap numbered x.0, x.1);
-    none = λ u v. ap (λ (y : Ran). number_of (numbered y)) (finishes n rows exits a l o (answer_right n rows exits a l u v)).0;
+    none = λ u v. ap (λ (y : Result Ended refusals.Refusal). number_of (numbered y)) (finishes n rows exits a l o (answer_right n rows exits a l u v)).0;
   }
 
 -- the same with the exits recorded
 module _ (n : ℕ) (rows exits : List ℕ) (a : Asks) (l : Slices) (taken : List ℕ) where
-  pub recorded_only : {r r' : Ran} {l' l'' : Slices} {t' t'' : List ℕ} → Recorded n rows exits a l taken r l' t' → Recorded n rows exits a l taken r' l'' t''
+  pub recorded_only : {r r' : Result Ended refusals.Refusal} {l' l'' : Slices} {t' t'' : List ℕ} → Recorded n rows exits a l taken r l' t' → Recorded n rows exits a l taken r' l'' t''
       → (r ≡ r') × (l' ≡ l'') × (t' ≡ t'')
   recorded_only p q =
       let same = run_only n rows exits a l p.run q.run in
       let one = histories_same (job_of rows exits (given_of a) l) p.history q.history in
       (same.0, same.1, p.leaves ∙ ap (λ (ws : List ℕ). unless_refused (answer n rows exits a l) (taken_of ws taken) taken) one ∙ sym q.leaves)
 
-  module _ {r : Ran} {l' : Slices} {t' : List ℕ} (o : Recorded n rows exits a l taken r l' t') where
+  module _ {r : Result Ended refusals.Refusal} {l' : Slices} {t' : List ℕ} (o : Recorded n rows exits a l taken r l' t') where
     -- a refused call
     pub recorded_refused : (number_of (numbered r) ≡ 0 → ⊥) → t' ≡ taken
     recorded_refused h = o.leaves ∙ kept (answer n rows exits a l) (λ z. h (ap number_of o.run.answers ∙ z))
@@ -178,27 +178,23 @@ module _ (n : ℕ) (rows exits : List ℕ) (g : Given) (l : Slices) (v t : List 
       let o = observed_only x y p.1 q.1 in
       (a.0 ∙ sym b.0, a.1 ∙ sym b.1, o.0, o.1)
 
--- the answer that its numbers name
-abbrev told_by : Numbers → Forever
-told_by x = cond (eqb (number_of x) 0) (cond (eqb (get_or (values_of x) 0 0) 0) No Yes) Refused
-
-told : (r : Forever) → r ≡ told_by (Always.numbered r)
-unfolding Always.numbered
-told Refused = refl
-told Yes = refl
-told No = refl
-
 module _ (n : ℕ) (rows exits : List ℕ) where
-  pub forever_only : {r r' : Forever} → Always.numbered r ≡ Always.answer n rows exits → Always.numbered r' ≡ Always.answer n rows exits
-      → r ≡ r'
-  forever_only {r} {r'} p q = told r ∙ ap told_by (p ∙ sym q) ∙ sym (told r')
-
-  pub forever_answer : {r : Forever} → Always.numbered r ≡ Always.answer n rows exits
-      → r ≡ cond (valid_of Rust n rows exits) (cond (every (Always.onward rows exits) n) Yes No) Refused
-  unfolding first
-  forever_answer {r} p = told r ∙ ap told_by p ∙ go (wrong_table Rust n rows exits) (every (Always.onward rows exits) n)
+  pub forever_answer : {r : Result Bool refusals.Refusal} → Always.numbered r ≡ Always.answer n rows exits
+      → r ≡ cond (valid_of Rust n rows exits) (Ok (every (Always.onward rows exits) n)) (Err Table)
+  unfolding first Always.numbered
+  forever_answer {r} p = go (wrong_table Rust n rows exits) (every (Always.onward rows exits) n) p
     where
-      go : (t u : Bool) → told_by (first (row t (numbers 10 (0 ∷ [])) ∷ []) (numbers 0 (cond u 1 0 ∷ []))) ≡ cond (not t) (cond u Yes No) Refused
-      go true u = refl
-      go false true = refl
-      go false false = refl
+      by_value : (r : Result Bool refusals.Refusal) (u : Bool) → Always.numbered r ≡ numbers 0 (cond u 1 0 ∷ []) → r ≡ Ok u
+      by_value (Ok true) true e = refl
+      by_value (Ok true) false e = let z : suc zero ≡ 0 = ap (λ (x : Numbers). get_or (values_of x) 0 0) e in absurd (omega arith)
+      by_value (Ok false) true e = let z : zero ≡ 1 = ap (λ (x : Numbers). get_or (values_of x) 0 0) e in absurd (omega arith)
+      by_value (Ok false) false e = refl
+      by_value (Err k) u e = absurd (never_done k _ _ e)
+
+      go : (t u : Bool) → Always.numbered r ≡ first (row t (numbers 10 (0 ∷ [])) ∷ []) (numbers 0 (cond u 1 0 ∷ [])) → r ≡ cond (not t) (Ok u) (Err Table)
+      go true u e = refused_only (λ (yes : Bool). cond yes 1 0 ∷ []) (λ k. 0 ∷ []) Table (0 ∷ []) (past_places (omega arith)) r e
+      go false u e = by_value r u e
+
+  pub forever_only : {r r' : Result Bool refusals.Refusal} → Always.numbered r ≡ Always.answer n rows exits → Always.numbered r' ≡ Always.answer n rows exits
+      → r ≡ r'
+  forever_only p q = forever_answer p ∙ sym (forever_answer q)

@@ -20,7 +20,9 @@ use Rattle.interpreter.specs.declared.State.{State}
 use Rattle.interpreter.specs.declared.Ended.{Ended}
 use Rattle.interpreter.specs.Resume.{machine_of, Reaches, Resumed, Started}
 use Rattle.interpreter.specs.Run.{Job, Went, goes, halts, step_of, after, run_of}
-use Rattle.interpreter.specs.declared.Ran.{Ran}
+use Rattle.std.specs.Prelude.{Result}
+use Rattle.base.specs.declared.refusal.Refusal.{Refusal}
+use Rattle.interpreter.specs.declared.Ended.{Ended}
 use Rattle.interpreter.specs.Outcome.{slices_of, ended_of, result_of, refusals, job_of, end_of, Outcome}
 use Rattle.interpreter.proofs.RunLaws.{same_job}
 use Rattle.interpreter.proofs.Histories.{never_max, at_limit, run_limit}
@@ -41,7 +43,7 @@ module _ (j : Job) where
       go (halts s) h f = refl
 
 -- the same of a call: answer and every lent cell
-pub larger_limit_outcome : (n : ℕ) (rows exits : List ℕ) (a : Asks) (d : ℕ) (l : Slices) {r : Ran} {l' : Slices}
+pub larger_limit_outcome : (n : ℕ) (rows exits : List ℕ) (a : Asks) (d : ℕ) (l : Slices) {r : Result Ended Refusal} {l' : Slices}
     → ((end_of rows exits (given_of a) l).stop ≡ MaxSteps → ⊥) → Outcome n rows exits a l r l'
     → Outcome n rows exits (asks a.edition (a.limit + d) a.mode a.input) l r l'
 larger_limit_outcome n rows exits a d l h o = record {

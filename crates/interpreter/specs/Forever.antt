@@ -1,9 +1,9 @@
 -- `determine_runs_forever`: whether each node has an exit that is not 0 (rule 7.5); refusal 10 (rule 12.6). Assumes nothing.
-use Rattle.std.specs.Prelude.{Bool, not, cond, ◌||◌, List, [], ◌∷◌, ℕ, eqb}
+use Rattle.std.specs.Prelude.{Bool, not, cond, ◌||◌, List, [], ◌∷◌, ℕ, eqb, Result}
 use Rattle.base.specs.declared.edition.Edition.TheVariants.{Rust}
 use Rattle.base.specs.Numbers.{Numbers, numbers, Row, row, first}
-use Rattle.interpreter.specs.declared.Forever.{Forever}
-use Rattle.interpreter.specs.declared.Forever.TheVariants.{Refused, Yes, No}
+use Rattle.base.specs.Refusal.{answered}
+use Rattle.base.specs.declared.refusal.Refusal.{Refusal}
 use Rattle.interpreter.specs.Table.{every, wrong_table}
 use Rattle.table.specs.Layout.{exit_at, mark_of}
 
@@ -16,10 +16,8 @@ abbrev pub onward : List ℕ → List ℕ → ℕ → Bool
 onward rows exits region = eqb (mark_of rows region) 0 || not (closed exits region)
 
 -- the answer in numbers (rules 7.5, 12.6): 1 for yes, 0 for no
-unfoldable pub numbered : Forever → Numbers
-numbered Refused = numbers 10 (0 ∷ [])
-numbered Yes = numbers 0 (1 ∷ [])
-numbered No = numbers 0 (0 ∷ [])
+unfoldable pub numbered : Result Bool Refusal → Numbers
+numbered = answered (λ yes. cond yes 1 0 ∷ []) (λ r. 0 ∷ [])
 
 -- the refusals of the call, which is of edition 1 (rule 16.7), its answer where none is given, and what is answered
 abbrev pub refusals : ℕ → List ℕ → List ℕ → List Row

@@ -1,7 +1,9 @@
 -- What a call of a run answers and leaves in the lent slices (rules 8.5, 8.6). Assumes nothing.
-use Rattle.std.specs.Prelude.{◌≡◌, List, [], ◌∷◌, ◌++◌, map, reverse, ℕ, ◌-◌, length, replicate, ℤ, pos}
+use Rattle.std.specs.Prelude.{◌≡◌, List, [], ◌∷◌, ◌++◌, map, reverse, ℕ, ◌-◌, length, replicate, ℤ, pos, Result, Ok}
 use Rattle.base.specs.Edition.{unknown_edition, edition_of}
 use Rattle.base.specs.Numbers.{Numbers, numbers, Row, row, first, unless_refused}
+use Rattle.base.specs.Refusal.{answered}
+use Rattle.base.specs.declared.refusal.Refusal.{Refusal}
 use Rattle.machine.specs.declared.Core.{Core}
 use Rattle.machine.specs.Output.{Emit}
 use Rattle.machine.specs.Counts.{counts_of}
@@ -10,8 +12,6 @@ use Rattle.machine.specs.Place.{Machine, End}
 use Rattle.machine.specs.Held.{Slices, slices, room_of}
 use Rattle.interpreter.specs.declared.State.{State}
 use Rattle.interpreter.specs.declared.Ended.{Ended}
-use Rattle.interpreter.specs.declared.Ran.{Ran}
-use Rattle.interpreter.specs.declared.Ran.TheVariants.{Refused, Finished}
 use Rattle.interpreter.specs.Table.{wrong_table}
 use Rattle.interpreter.specs.Run.{Job, ran}
 
@@ -57,9 +57,8 @@ abbrev pub refused : ℕ → Numbers
 refused = refused_in result_cells
 
 -- the answer in numbers (rules 8.5, 12.2)
-unfoldable pub numbered : Ran → Numbers
-numbered (Refused number) = refused number
-numbered (Finished e) = numbers 0 (result_of e)
+unfoldable pub numbered : Result Ended Refusal → Numbers
+numbered = answered result_of (λ r. replicate result_cells 0)
 
 -- the refusals of a call that runs a table, by the number of its edition: 15, then 10 (rule 12.6)
 abbrev pub refusals_in : ℕ → ℕ → ℕ → List ℕ → List ℕ → List Row
@@ -85,7 +84,7 @@ left_of n rows exits a l = unless_refused (answer n rows exits a l) (slices_of l
 
 -- what a call answers and leaves. The numbers do not tell whether input is awaited, so the place where a finished
 -- run ended is settled besides.
-pub record Outcome (n : ℕ) (rows exits : List ℕ) (a : Asks) (l : Slices) (r : Ran) (l' : Slices) : Type 0 where
+pub record Outcome (n : ℕ) (rows exits : List ℕ) (a : Asks) (l : Slices) (r : Result Ended Refusal) (l' : Slices) : Type 0 where
   pub answers : numbered r ≡ answer n rows exits a l
-  pub ends : (e : Ended) → r ≡ Finished e → e ≡ ended_of (end_of rows exits (given_of a) l)
+  pub ends : (e : Ended) → r ≡ Ok e → e ≡ ended_of (end_of rows exits (given_of a) l)
   pub leaves : l' ≡ left_of n rows exits a l

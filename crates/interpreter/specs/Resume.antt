@@ -1,13 +1,12 @@
 -- Where a run may be taken up again, and what `resume` makes of it (rule 8.8). Assumes nothing.
-use Rattle.std.specs.Prelude.{◌≡◌, List, ℕ, ◌-◌, ◌<◌, ◌≤◌}
+use Rattle.std.specs.Prelude.{◌≡◌, List, ℕ, ◌-◌, ◌<◌, ◌≤◌, Result, Ok, Err}
 use Rattle.machine.specs.Counts.{total}
 use Rattle.machine.specs.Machine.{Given, Asks, given_of, JudgedIn}
 use Rattle.machine.specs.Place.{Machine, End}
 use Rattle.machine.specs.Held.{Slices, store_of, Stands}
 use Rattle.interpreter.specs.declared.State.{State}
 use Rattle.interpreter.specs.declared.Ended.{Ended}
-use Rattle.interpreter.specs.declared.Ran.{Ran}
-use Rattle.interpreter.specs.declared.Ran.TheVariants.{Refused, Finished}
+use Rattle.base.specs.declared.refusal.Refusal.{Refusal}
 use Rattle.interpreter.specs.Table.{Good}
 use Rattle.interpreter.specs.Run.{run_of}
 use Rattle.interpreter.specs.Outcome.{job_of, end_of}
@@ -37,7 +36,7 @@ abbrev pub Started : ℕ → List ℕ → List ℕ → Given → Slices → Slic
 Started n rows exits g l l' r = Reaches n (end_of rows exits g l) l' r
 
 -- where a run ended it may be taken up again: what `resume` asks for holds there, and it stands where the run ended
-abbrev pub Resumable : ℕ → List ℕ → List ℕ → Asks → Slices → Ran → Slices → Type 0
-Resumable n rows exits a l (Refused number) l' = Unit {0}
-Resumable n rows exits a l (Finished e) l' =
+abbrev pub Resumable : ℕ → List ℕ → List ℕ → Asks → Slices → Result Ended Refusal → Slices → Type 0
+Resumable n rows exits a l (Err r) l' = Unit {0}
+Resumable n rows exits a l (Ok e) l' =
     Good n rows exits × Started n rows exits (given_of a) l l' e × JudgedIn (given_of a) e.at.core.reading

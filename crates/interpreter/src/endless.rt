@@ -4,9 +4,9 @@ ghost use Rattle.table.specs.Layout.{rows_room, exits_room};
 ghost use Rattle.interpreter.specs.Table.{every, Good};
 ghost use Rattle.interpreter.specs.Forever.{closed, onward, numbered, answer};
 
-use crate::Forever;
 use crate::validity::valid;
 use base::edition::Edition;
+use base::refusal::Refusal;
 use table::{Field, exit_cell, row_cell};
 
 // Whether all eight exits of a region are 0.
@@ -57,15 +57,11 @@ fn all_onward(rows: &[u32], exits: &[u32], n: usize) -> bool
 }
 
 // Whether the table runs forever (rule 7.5); refusal 10 as for a run of edition 1 (rules 12.6, 16.7).
-pub fn determine_runs_forever(n: usize, rows: &[u32], exits: &[u32]) -> Forever
+pub fn determine_runs_forever(n: usize, rows: &[u32], exits: &[u32]) -> Result<bool, Refusal>
     ensures { numbered result ≡ answer n rows.now exits.now }
 {
-    let ok = valid(n, rows, exits, Edition::Rust);
-    if !ok {
-        return Forever::Refused;
+    if !valid(n, rows, exits, Edition::Rust) {
+        return Err(Refusal::Table);
     }
-    if all_onward(rows, exits, n) {
-        return Forever::Yes;
-    }
-    Forever::No
+    Ok(all_onward(rows, exits, n))
 }

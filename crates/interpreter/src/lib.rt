@@ -10,7 +10,7 @@ pub use endless::determine_runs_forever;
 use machine::{Core, Stop};
 pub use running::{begin, resume, run, run_history, run_observed};
 pub use stepping::{Moved, step};
-pub use validity::{WRONG_TABLE, valid};
+pub use validity::valid;
 
 // Where a run stands, beside the lent slices.
 #[derive(Clone, Copy)]
@@ -25,19 +25,4 @@ pub struct State {
 pub struct Ended {
     pub stop: Stop,
     pub at: State,
-}
-
-// What a call answers: a refusal's number, or where the run stopped.
-#[derive(Clone, Copy)]
-pub enum Ran {
-    Refused(u32),
-    Finished(Ended),
-}
-
-// Whether every node has an exit; refusal 10.
-#[derive(Clone, Copy)]
-pub enum Forever {
-    Refused,
-    Yes,
-    No,
 }

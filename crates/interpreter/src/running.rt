@@ -10,9 +10,10 @@ ghost use Rattle.interpreter.specs.Recorded.{Recorded};
 ghost use Rattle.interpreter.specs.Observed.{visited, CanCount, kept_at, ObservedFrom, ObservedAll};
 
 use crate::stepping::{Moved, step};
-use crate::validity::{WRONG_TABLE, valid};
-use crate::{Ended, Ran, State};
-use base::edition::{UNKNOWN_EDITION, edition_of, unknown_edition};
+use crate::validity::valid;
+use crate::{Ended, State};
+use base::edition::Edition;
+use base::refusal::Refusal;
 use flow::PointerState;
 use machine::{Core, Reading, Skips, Stop, Terms};
 
@@ -179,17 +180,13 @@ pub fn run_history(
     kinds: &mut [u8],
     values: &mut [i64],
     taken: &mut [u32],
-) -> Ran
+) -> Result<Ended, Refusal>
     ensures recorded { Recorded n rows.now exits.now (asks edition limit abstract_mode input.now) (slices stack.old kinds.old values.old) taken.old result (slices stack.new kinds.new values.new) taken.new }
     ensures resumable { Resumable n rows.now exits.now (asks edition limit abstract_mode input.now) (slices stack.old kinds.old values.old) result (slices stack.new kinds.new values.new) }
 {
-    if unknown_edition(edition) {
-        return Ran::Refused(UNKNOWN_EDITION);
-    }
-    let known = edition_of(edition);
-    let ok = valid(n, rows, exits, known);
-    if !ok {
-        return Ran::Refused(WRONG_TABLE);
+    let known = Edition::try_from(edition)?;
+    if !valid(n, rows, exits, known) {
+        return Err(Refusal::Table);
     }
     let terms = Terms {
         edition: known,
@@ -197,7 +194,7 @@ pub fn run_history(
         abstract_mode,
     };
     let mut uncounted = [0u64; 0];
-    let ended = run_observed(
+    Ok(run_observed(
         n,
         rows,
         exits,
@@ -208,8 +205,7 @@ pub fn run_history(
         values,
         &mut uncounted,
         taken,
-    );
-    Ran::Finished(ended)
+    ))
 }
 
 // The same with no exit kept.
@@ -224,7 +220,7 @@ pub fn run(
     stack: &mut [i64],
     kinds: &mut [u8],
     values: &mut [i64],
-) -> Ran
+) -> Result<Ended, Refusal>
     ensures outcome { Outcome n rows.now exits.now (asks edition limit abstract_mode input.now) (slices stack.old kinds.old values.old) result (slices stack.new kinds.new values.new) }
     ensures resumable { Resumable n rows.now exits.now (asks edition limit abstract_mode input.now) (slices stack.old kinds.old values.old) result (slices stack.new kinds.new values.new) }
 {

@@ -7,9 +7,6 @@ ghost use Rattle.interpreter.specs.Table.{any, wrong_mark, wrong_exit, wrong_exi
 use base::edition::Edition;
 use table::{Field, LARGEST_EXIT, LOST_SLIDE, exits_room, row_cell, rows_room, target_of};
 
-// The number of the refusal.
-pub const WRONG_TABLE: u32 = 10;
-
 // The most regions that refusal 10 allows.
 const MOST_REGIONS: usize = 65536;
 

@@ -1,21 +1,21 @@
 -- A file has one reading, a call has one outcome, and reading is done exactly where the file is a picture. Assumes nothing.
-use mathlib.Core.Path.{◌≡◌, ◌∙◌, sym, ap, refl}
-use mathlib.Core.Bool.{false, cond, true≢false}
+use mathlib.Core.Path.{◌≡◌, ◌∙◌, sym, ap, refl, subst}
+use mathlib.Core.Bool.{Bool, true, false, not, ◌||◌, true≢false}
 use mathlib.Core.List.{List, [], ◌∷◌}
 use Prim.Native.Nat.{ℕ, ◌*◌, ◌≤◌}
 use native.Mathlib.Omega.{arith}
 use borrow.Author.Tests.{ltb-false, eqb-true, not-false, le-ltb, eq-eqb}
-use lib.Dec.{eqb}
+use lib.Dec.{eqb, ltb}
 use lib.ListN.{length, get_or}
-use Rattle.base.specs.Numbers.{Numbers, numbers, first, unless_refused}
+use Rattle.base.specs.Numbers.{Numbers, numbers, number_of, row, first, unless_refused}
 use Rattle.base.specs.Lent.{lent}
 use Rattle.base.specs.Limits.{wrong_side}
 use Rattle.base.proofs.Refusals.{passed, no_row}
 use Rattle.base.proofs.Tests.{neither}
-use Rattle.netpbm.specs.declared.reading.Read.{Read}
-use Rattle.netpbm.specs.declared.reading.Read.TheVariants.{Done, Header, Size, Length, Room}
-use Rattle.netpbm.specs.declared.writing.Written.{Written}
-use Rattle.netpbm.specs.declared.writing.Written.TheVariants.{Done as Wrote, Size as WrongSize, Bytes, Room as NoRoom}
+use Rattle.std.specs.Prelude.{Result, Ok}
+use Rattle.base.specs.declared.refusal.Refusal.{Refusal}
+use Rattle.base.proofs.RefusalLaws.{Placeless, answered_only, placed_only}
+use Rattle.netpbm.specs.declared.reading.Sides.{Sides}
 use Rattle.netpbm.specs.File.{IsP6, shortest}
 use Rattle.netpbm.specs.Reads as reads
 use Rattle.netpbm.specs.Reads.{Said, nothing, said, Says, pixels_of}
@@ -32,35 +32,32 @@ said_only file nothing (said h w p) u v = absurd (u h w p v)
 said_only file (said h w p) nothing u v = absurd (v h w p u)
 said_only file (said h w p) (said h' w' p') u v = let s = header_only u v in cc
 
--- a refusal's number names one case
-abbrev read_of : Numbers → Read
-read_of (numbers n v) =
-    cond (eqb n 0) (Done (get_or v 0 0) (get_or v 1 0)) (cond (eqb n 1) Size (cond (eqb n 4) Room (cond (eqb n 13) Header Length)))
+-- an answer of writing names no place
+write_placeless : (pixels : List ℕ) (height width room : ℕ) → Placeless (number_of (writes.answer pixels height width room))
+unfolding writes.answer writes.refusals first
+write_placeless pixels height width room =
+    by_tests (wrong_side height || wrong_side width) (not (eqb (length pixels) (3 * (height * width)))) (ltb room (length (shortest height width pixels)))
+  where
+    by_tests : (a b d : Bool) → Placeless (number_of (first (row a (numbers 1 (0 ∷ [])) ∷ row b (numbers 2 (0 ∷ [])) ∷ row d (numbers 4 (0 ∷ [])) ∷ []) (numbers 0 (length (shortest height width pixels) ∷ []))))
+    by_tests true b d = (λ e. omega arith, λ e. omega arith)
+    by_tests false true d = (λ e. omega arith, λ e. omega arith)
+    by_tests false false true = (λ e. omega arith, λ e. omega arith)
+    by_tests false false false = (λ e. omega arith, λ e. omega arith)
 
-read_again : (r : Read) → read_of (reads.numbered r) ≡ r
-read_again (Done h w) = refl
-read_again Header = refl
-read_again Size = refl
-read_again Length = refl
-read_again Room = refl
-
-abbrev written_of : Numbers → Written
-written_of (numbers n v) = cond (eqb n 0) (Wrote (get_or v 0 0)) (cond (eqb n 1) WrongSize (cond (eqb n 2) Bytes NoRoom))
-
-written_again : (r : Written) → written_of (writes.numbered r) ≡ r
-written_again (Wrote n) = refl
-written_again WrongSize = refl
-written_again Bytes = refl
-written_again NoRoom = refl
+same_sides : (s t : Sides) → (s.height ∷ s.width ∷ []) ≡ (t.height ∷ t.width ∷ []) → s ≡ t
+same_sides s t e =
+    let h = ap (λ (v : List ℕ). get_or v 0 0) e in
+    let w = ap (λ (v : List ℕ). get_or v 1 0) e in
+    λ i. record { height = h i; width = w i }
 
 -- two outcomes that `read_p6` may have for one input are one
-pub read_only : {file before : List ℕ} {r r' : Read} {after after' : List ℕ}
+pub read_only : {file before : List ℕ} {r r' : Result Sides Refusal} {after after' : List ℕ}
     → reads.Outcome file before r after → reads.Outcome file before r' after' → (r ≡ r') × (after ≡ after')
 read_only {file} {before} {r} {r'} o o' =
     let t : o.content ≡ o'.content = said_only file o.content o'.content o.says o'.says in
     let e : reads.numbered r ≡ reads.numbered r' =
     o.answers ∙ ap (λ (x : Said). reads.answer x (length before)) t ∙ sym o'.answers in (
-      sym (read_again r) ∙ ap read_of e ∙ read_again r',
+      placed_only _ same_sides r r' e,
       o.leaves
           ∙ ap (λ (x : Said). unless_refused (reads.numbered r) (lent (pixels_of x) before) before) t
           ∙ ap (λ (n : Numbers). unless_refused n (lent (pixels_of o'.content) before) before) e
@@ -68,11 +65,11 @@ read_only {file} {before} {r} {r'} o o' =
     )
 
 -- two outcomes that `write_p6` may have for one input are one
-pub write_only : {pixels : List ℕ} {height width : ℕ} {before : List ℕ} {r r' : Written} {after after' : List ℕ}
+pub write_only : {pixels : List ℕ} {height width : ℕ} {before : List ℕ} {r r' : Result ℕ Refusal} {after after' : List ℕ}
     → writes.Outcome pixels height width before r after → writes.Outcome pixels height width before r' after' → (r ≡ r') × (after ≡ after')
 write_only {pixels} {height} {width} {before} {r} {r'} o o' =
     let e : writes.numbered r ≡ writes.numbered r' = o.answers ∙ sym o'.answers in (
-      sym (written_again r) ∙ ap written_of e ∙ written_again r',
+      answered_only _ (λ t u k. ap (λ (v : List ℕ). get_or v 0 0) k) _ r r' (subst (λ (n : Numbers). Placeless (number_of n)) (sym o.answers) (write_placeless pixels height width (length before))) e,
       o.leaves ∙ ap (λ (n : Numbers). unless_refused n (lent (shortest height width pixels) before) before) e ∙ sym o'.leaves,
     )
 
@@ -110,17 +107,17 @@ done_says {file} {before} {h} {w} (said h' w' p) u e =
       leaves = refl;
     }
 
-pub done_is : {file before : List ℕ} {h w : ℕ} {after : List ℕ} → reads.Outcome file before (Done h w) after → Pictured file before h w after
+pub done_is : {file before : List ℕ} {h w : ℕ} {after : List ℕ} → reads.Outcome file before (Ok (record { height = h; width = w })) after → Pictured file before h w after
 done_is {file} {before} {h} {w} o = let e = o.leaves in rw e (done_says o.content o.says o.answers)
 
 -- and every such picture is read
-pub is_done : {file before : List ℕ} {h w : ℕ} {after : List ℕ} {r : Read} → Pictured file before h w after
-    → {after' : List ℕ} → reads.Outcome file before r after' → (r ≡ Done h w) × (after' ≡ after)
+pub is_done : {file before : List ℕ} {h w : ℕ} {after : List ℕ} {r : Result Sides Refusal} → Pictured file before h w after
+    → {after' : List ℕ} → reads.Outcome file before r after' → (r ≡ Ok (record { height = h; width = w })) × (after' ≡ after)
 unfolding reads.answer reads.refusals first
 is_done {file} {before} {h} {w} {after} q o =
     let b = q.is.bytes in
     let m = q.room in
-    let mine : reads.Outcome file before (Done h w) after =
+    let mine : reads.Outcome file before (Ok (record { height = h; width = w })) after =
     record {
       content = said h w q.pixels;
       says = q.is.header;

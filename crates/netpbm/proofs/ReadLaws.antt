@@ -12,7 +12,8 @@ use Rattle.base.specs.Lent.{Put}
 use Rattle.base.specs.Limits.{wrong_side}
 use Rattle.base.proofs.Sides.{side, area}
 use Rattle.base.proofs.Over.{over_zero}
-use Rattle.netpbm.specs.declared.reading.Read.TheVariants.{Done, Header, Size, Length, Room}
+use Rattle.std.specs.Prelude.{Ok, Err}
+use Rattle.base.specs.declared.refusal.Refusal.TheVariants.{Header, Size, Length, Room}
 use Rattle.netpbm.specs.File.{IsHeader}
 use Rattle.netpbm.specs.Scan.{HeaderAt}
 use Rattle.netpbm.specs.Reads.{nothing, said, refusals, answer, Outcome}
@@ -20,7 +21,7 @@ use Rattle.netpbm.proofs.Caps.{capped_side, capped_right}
 
 -- 13
 pub refuse_header : {file before : List ℕ} → ((height width : ℕ) (pixels : List ℕ) → IsHeader file height width 255 pixels → ⊥)
-    → Outcome file before Header before
+    → Outcome file before (Err Header) before
 unfolding answer refusals first
 refuse_header none = record { content = nothing; says = none; answers = refl; leaves = refl }
 
@@ -32,7 +33,7 @@ module _ {file : List ℕ} {height width start : ℕ} (a : HeaderAt file height 
   broad_side = sym (capped_side a.broad) ∙ ap wrong_side (sym a.width_is)
 
   -- 1
-  pub refuse_size : {before : List ℕ} → (wrong_side height || wrong_side width) ≡ true → Outcome file before Size before
+  pub refuse_size : {before : List ℕ} → (wrong_side height || wrong_side width) ≡ true → Outcome file before (Err Size) before
   unfolding answer refusals first
   refuse_size e = record {
     content = said a.tall a.broad (drop start file);
@@ -53,7 +54,7 @@ module _ {file : List ℕ} {height width start : ℕ} (a : HeaderAt file height 
         rw (t, b) at a.header
 
     -- 14
-    pub refuse_length : {before : List ℕ} → (length file - start ≡ 3 * (height * width) → ⊥) → Outcome file before Length before
+    pub refuse_length : {before : List ℕ} → (length file - start ≡ 3 * (height * width) → ⊥) → Outcome file before (Err Length) before
     unfolding answer refusals first
     refuse_length other = record {
       content = said height width (drop start file);
@@ -64,7 +65,7 @@ module _ {file : List ℕ} {height width start : ℕ} (a : HeaderAt file height 
 
     module _ (all : length file - start ≡ 3 * (height * width)) where
       -- 4
-      pub refuse_room : {before : List ℕ} → length before < 3 * (height * width) → Outcome file before Room before
+      pub refuse_room : {before : List ℕ} → length before < 3 * (height * width) → Outcome file before (Err Room) before
       unfolding answer refusals first
       refuse_room {before} few = record {
         content = said height width (drop start file);
@@ -74,7 +75,7 @@ module _ {file : List ℕ} {height width start : ℕ} (a : HeaderAt file height 
       }
 
       pub done : {before after : List ℕ} {r : ℕ} → 3 * (height * width) ≤ length before
-          → Put before 0 (take (length file - start) (drop start file)) r after → Outcome file before (Done height width) after
+          → Put before 0 (take (length file - start) (drop start file)) r after → Outcome file before (Ok (record { height = height; width = width })) after
       unfolding answer refusals first
       done {before} room p =
           let l = length-drop start file in

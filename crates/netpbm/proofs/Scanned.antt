@@ -12,7 +12,9 @@ use Rattle.netpbm.specs.File.{header_white, Field, IsHeader}
 use Rattle.netpbm.specs.Scan.{past_gap, past_digits, value_of, stops}
 use Rattle.base.specs.Numbers.{unless_refused}
 use Rattle.base.specs.Lent.{lent}
-use Rattle.netpbm.specs.declared.reading.Read.{Read}
+use Rattle.std.specs.Prelude.{Result}
+use Rattle.base.specs.declared.refusal.Refusal.{Refusal}
+use Rattle.netpbm.specs.declared.reading.Sides.{Sides}
 use Rattle.netpbm.specs.Reads.{Said, nothing, said, Says, pixels_of, numbered, answer, Outcome}
 use Rattle.netpbm.proofs.Only.{said_only}
 use Rattle.netpbm.proofs.Fields.{field_rest, field_value, field_gap, field_number, field_of}
@@ -178,7 +180,7 @@ says file = go (scanned file) refl
     go (said h w p) e = scanned_header file h w p e
 
 -- so that a call's outcome is computed too
-pub outcome_scanned : {file before : List ℕ} {r : Read} {after : List ℕ} → Outcome file before r after
+pub outcome_scanned : {file before : List ℕ} {r : Result Sides Refusal} {after : List ℕ} → Outcome file before r after
     → (numbered r ≡ answer (scanned file) (length before)) × (after ≡ unless_refused (numbered r) (lent (pixels_of (scanned file)) before) before)
 outcome_scanned {file} {before} {r} o =
     let t : o.content ≡ scanned file = said_only file o.content (scanned file) o.says (says file) in (

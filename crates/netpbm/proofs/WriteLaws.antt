@@ -1,12 +1,12 @@
 -- Laws of the shortest file and of the order in which it is written. Assumes nothing.
-use mathlib.Core.Path.{◌≡◌, ◌∙◌, ap, refl}
+use mathlib.Core.Path.{◌≡◌, ◌∙◌, ap}
 use mathlib.Core.List.{List, [], ◌∷◌, ◌++◌}
 use Prim.Native.Nat.{ℕ, ◌+◌, ◌*◌, ◌/◌, ◌%◌, ◌<◌, ◌≤◌}
 use native.Mathlib.Omega.{arith}
 use borrow.Author.Tests.{ltb-false, eqb-true, not-false}
 use lib.Dec.{eqb}
 use lib.ListN.{length, length-append}
-use Rattle.base.specs.Numbers.{numbers, unless_refused}
+use Rattle.base.specs.Numbers.{numbers}
 use Rattle.base.specs.Lent.{lent, Put, Room}
 use Rattle.base.specs.Limits.{wrong_side}
 use Rattle.base.specs.Text.{ascii, decimal}
@@ -15,10 +15,8 @@ use Rattle.base.proofs.Over.{room_front, room_back, put_then, over_zero}
 use Rattle.base.proofs.Refusals.{passed, no_row}
 use Rattle.base.proofs.Sides.{side}
 use Rattle.base.proofs.Tests.{neither}
-use Rattle.netpbm.specs.declared.writing.Written.{Written}
-use Rattle.netpbm.specs.declared.writing.Written.TheVariants.{Done, Size, Bytes, Room as NoRoom}
 use Rattle.netpbm.specs.File.{line, shortest}
-use Rattle.netpbm.specs.Writes.{numbered, refusals, answer}
+use Rattle.netpbm.specs.Writes.{refusals, answer}
 
 -- how many digits a number has
 pub one_digit : (n : ℕ) → n < 10 → length (decimal n) ≡ 1
@@ -65,13 +63,6 @@ answered p h w room n e =
     let b = passed _ 1 _ v _ _ a.1 in
     let d = passed _ 3 _ v _ _ b.1 in
     let last : numbers 0 (n ∷ []) ≡ numbers 0 (length (shortest h w p) ∷ []) = d.1 ∙ no_row _ in cc
-
--- a refused call leaves what is lent
-pub kept : (r : Written) (new old : List ℕ) → ((n : ℕ) → r ≡ Done n → ⊥) → unless_refused (numbered r) new old ≡ old
-kept (Done n) new old other = absurd (other n refl)
-kept Size new old other = refl
-kept Bytes new old other = refl
-kept NoRoom new old other = refl
 
 -- what stands before the height, the maximum and the pixels
 abbrev upto_width : ℕ → List ℕ

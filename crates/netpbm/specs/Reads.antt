@@ -1,19 +1,16 @@
 -- What reading a P6 file answers and leaves (rules 12.9, 15.4). Assumes nothing.
-use Rattle.std.specs.Prelude.{◌≡◌, true, not, ◌||◌, List, [], ◌∷◌, ℕ, ◌*◌, eqb, ltb, length}
+use Rattle.std.specs.Prelude.{◌≡◌, true, not, ◌||◌, List, [], ◌∷◌, ℕ, ◌*◌, eqb, ltb, length, Result}
 use Rattle.base.specs.Numbers.{Numbers, numbers, Row, row, first, unless_refused}
 use Rattle.base.specs.Lent.{lent}
 use Rattle.base.specs.Limits.{wrong_side}
-use Rattle.netpbm.specs.declared.reading.Read.{Read}
-use Rattle.netpbm.specs.declared.reading.Read.TheVariants.{Done, Header, Size, Length, Room}
+use Rattle.base.specs.Refusal.{place_cells, answered}
+use Rattle.base.specs.declared.refusal.Refusal.{Refusal}
+use Rattle.netpbm.specs.declared.reading.Sides.{Sides}
 use Rattle.netpbm.specs.File.{IsHeader}
 
 -- the answer's number (rule 12.2), and the height and the width, zeros where the call is refused
-abbrev pub numbered : Read → Numbers
-numbered (Done height width) = numbers 0 (height ∷ width ∷ [])
-numbered Size = numbers 1 (0 ∷ 0 ∷ [])
-numbered Room = numbers 4 (0 ∷ 0 ∷ [])
-numbered Header = numbers 13 (0 ∷ 0 ∷ [])
-numbered Length = numbers 14 (0 ∷ 0 ∷ [])
+abbrev pub numbered : Result Sides Refusal → Numbers
+numbered = answered (λ s. s.height ∷ s.width ∷ []) place_cells
 
 -- what a file says: the height, the width and the bytes after its header; nothing where it has no header with maximum 255
 pub data Said : Type 0 where
@@ -47,7 +44,7 @@ unfoldable pub answer : Said → ℕ → Numbers
 answer s room = first (refusals s room) (numbers 0 (sides_of s))
 
 -- by what the file says: its answer, and its pixel bytes at the start of what is lent
-pub record Outcome (file before : List ℕ) (r : Read) (after : List ℕ) : Type 0 where
+pub record Outcome (file before : List ℕ) (r : Result Sides Refusal) (after : List ℕ) : Type 0 where
   pub content : Said
   pub says : Says file content
   pub answers : numbered r ≡ answer content (length before)

@@ -5,15 +5,13 @@ ghost use Rattle.netpbm.specs.Reads.{Outcome};
 use crate::field::{Found, field_at, is_header_white};
 use base::limits::wrong_side;
 use base::put::put_word;
+use base::refusal::Refusal;
 
-// What a call answers: the size, or a refusal.
+// The size of a picture.
 #[derive(Clone, Copy)]
-pub enum Read {
-    Done { height: usize, width: usize },
-    Header,
-    Size,
-    Length,
-    Room,
+pub struct Sides {
+    pub height: usize,
+    pub width: usize,
 }
 
 // What stands before the pixels: the sides, up to the cap of a field's value, and where the pixels start.
@@ -67,7 +65,7 @@ fn heading_of(file: &[u8]) -> Heading
 }
 
 // The pixel bytes of a file, row by row, into the lent pixels.
-pub fn read_p6(file: &[u8], pixels: &mut [u8]) -> Read
+pub fn read_p6(file: &[u8], pixels: &mut [u8]) -> Result<Sides, Refusal>
     ensures { Outcome file.now pixels.old result pixels.new }
 {
     let Heading::Whole {
@@ -76,21 +74,21 @@ pub fn read_p6(file: &[u8], pixels: &mut [u8]) -> Read
         start,
     } = heading_of(file)
     else {
-        return Read::Header;
+        return Err(Refusal::Header);
     };
     if wrong_side(height) {
-        return Read::Size;
+        return Err(Refusal::Size);
     }
     if wrong_side(width) {
-        return Read::Size;
+        return Err(Refusal::Size);
     }
     let n = 3 * (height * width);
     if file.len() - start != n {
-        return Read::Length;
+        return Err(Refusal::Length);
     }
     if pixels.len() < n {
-        return Read::Room;
+        return Err(Refusal::Room);
     }
     put_word(pixels, 0, &file[start..]);
-    Read::Done { height, width }
+    Ok(Sides { height, width })
 }

@@ -9,7 +9,7 @@
 use mathlib.Core.Path.{◌≡◌, refl, sym, ap, ◌∙◌}
 use mathlib.Core.Bool.{true, false, true≢false}
 use mathlib.Core.List.{List, [], ◌∷◌}
-use Prim.Native.Nat.{ℕ, suc, ◌-◌, ◌<◌, ◌≤◌}
+use Prim.Native.Nat.{ℕ, ◌-◌, ◌<◌, ◌≤◌}
 use native.Mathlib.Omega.{arith}
 use borrow.Author.Tests.{le-ltb, lt-leb, eq-eqb, ne_eqb}
 use lib.ListN.{length, get_or, take, drop, length-take}
@@ -35,14 +35,13 @@ use Rattle.table.proofs.Cells.{row_in, exit_in}
 use Rattle.region.specs.Grid.{grid_of}
 use Rattle.region.proofs.MapLaws.{map_few}
 use Rattle.cfg.specs.Table.{Marks, is, none, Builds}
-use Rattle.cfg.specs.declared.building.Built.TheVariants.{Done}
+use Rattle.std.specs.Prelude.{Result, Ok, Err}
+use Rattle.base.specs.declared.refusal.Refusal.{Refusal}
 use Rattle.cfg.specs.Build as building
 use Rattle.cfg.specs.Build.{Written, refusals, picture_refusals, refusal}
 use Rattle.cfg.proofs.Refusing.{known, accepted}
 use Rattle.cfg.proofs.Leads.{exit_fits}
 use Rattle.interpreter.specs.declared.Ended.{Ended}
-use Rattle.interpreter.specs.declared.Ran.{Ran}
-use Rattle.interpreter.specs.declared.Ran.TheVariants.{Finished}
 use Rattle.interpreter.specs.Table.{wrong_mark, wrong_exit, wrong_exits, valid_of}
 use Rattle.interpreter.specs.Outcome.{Outcome, ended_of, slices_of, job_of, end_of}
 use Rattle.interpreter.specs.History.{History, regions_of}
@@ -53,7 +52,7 @@ use Rattle.interpreter.proofs.Answering.{answer_right, finishes, recorded}
 use Rattle.interpreter.proofs.Settled.{settled}
 use Rattle.interpreter.proofs.Observing.{taken_front}
 use Rattle.interpreter.proofs.Resuming.{resume_run}
-use Rattle.visits.specs.declared.Visited.TheVariants as Visited
+use Rattle.visits.specs.declared.Visited.{Visited}
 use Rattle.visits.specs.Visits.{unvisited_of}
 use Rattle.visits.specs.Outcome as visiting
 use Rattle.visits.proofs.Answering.{finished}
@@ -134,11 +133,7 @@ pub record Followed (number : ℕ) (p : Picture) (map rows exits : List ℕ) (n 
   pub tabled : Tabled (edition_of number) p (take (codels p) map) rows exits n
 
 pub runs : {number : ℕ} {p : Picture} {map rows exits work map' rows' exits' work' : List ℕ} {n : ℕ}
-    → building.Outcome number p map rows exits work (Done n) map' rows' exits' work' → Followed number p map' rows' exits' n
-runs (building.refused k v e h) = absurd (refused_done k _ v h)
-  where
-    refused_done : (k n : ℕ) (v : List ℕ) → numbers 0 (n ∷ 0 ∷ []) ≡ numbers (suc k) v → ⊥
-    refused_done k n v h = let z : suc k ≡ 0 = cc in omega arith
+    → building.Outcome number p map rows exits work (Ok n) map' rows' exits' work' → Followed number p map' rows' exits' n
 runs {number} {p} {map} {rows} {exits} {work} {rows' = rows'} {exits' = exits'} (building.done e W) =
     let s = accepted number p (length map) (length rows) (length exits) (length work) (0 ∷ 0 ∷ []) (sym e) in
     let R = long (rows_room (codels p)) rows' W.builds.rows_long in
@@ -155,14 +150,14 @@ runs {number} {p} {map} {rows} {exits} {work} {rows' = rows'} {exits' = exits'} 
     long k x h = omega (arith, length-take k x)
 
 module _ {p : Picture} {map rows exits work map' rows' exits' work' : List ℕ} {n : ℕ} (a : Asks)
-    (o : building.Outcome a.edition p map rows exits work (Done n) map' rows' exits' work') where
+    (o : building.Outcome a.edition p map rows exits work (Ok n) map' rows' exits' work') where
   abbrev T : Followed a.edition p map' rows' exits' n
   T = runs o
 
   -- Demand 3, from the two contracts as they stand: `build` answered n, and `run` was called on what it wrote, in the same
   -- edition
-  pub picture_follows : (l : Slices) {r : Ran} {l' : Slices} → Outcome n rows' exits' a l r l'
-      → (e : End) × (r ≡ Finished (ended_of e)) × Follows p (take (codels p) map') (given_of a) (room_of l) e × (e.at.region < n)
+  pub picture_follows : (l : Slices) {r : Result Ended Refusal} {l' : Slices} → Outcome n rows' exits' a l r l'
+      → (e : End) × (r ≡ Ok (ended_of e)) × Follows p (take (codels p) map') (given_of a) (room_of l) e × (e.at.region < n)
       × (l' ≡ slices_of l e.at.store)
   picture_follows l q =
       let f = follows T.sound (given_of a) T.tabled (room_of l) T.begins in
@@ -182,8 +177,8 @@ module _ {p : Picture} {map rows exits work map' rows' exits' work' : List ℕ} 
       (same.0, ap entered_by same.0 ∙ onto_entered 0 h.exits [])
 
   -- What a run that is recorded keeps: the exits in the cells, read as moves, are the moves, but for the latest where there are fewer cells
-  pub picture_moves : (l : Slices) (taken : List ℕ) {r : Ran} {l' : Slices} {taken' : List ℕ} → Recorded n rows' exits' a l taken r l' taken'
-      → (e : End) × (r ≡ Finished (ended_of e)) × (F : Follows p (take (codels p) map') (given_of a) (room_of l) e)
+  pub picture_moves : (l : Slices) (taken : List ℕ) {r : Result Ended Refusal} {l' : Slices} {taken' : List ℕ} → Recorded n rows' exits' a l taken r l' taken'
+      → (e : End) × (r ≡ Ok (ended_of e)) × (F : Follows p (take (codels p) map') (given_of a) (room_of l) e)
       × (onto 0 (take e.at.steps taken') [] ≡ drop (e.at.steps - length taken) F.history)
   picture_moves l taken {taken' = taken'} q =
       let f = follows T.sound (given_of a) T.tabled (room_of l) T.begins in
@@ -203,22 +198,26 @@ module _ {p : Picture} {map rows exits work map' rows' exits' work' : List ℕ} 
       )
 
   -- The same of a run whose visits were counted: they are how often the moves enter each region
-  pub picture_visits : (l : visiting.Lends) {e : Ended} {unvisited : ℕ} {l' : visiting.Lends}
-      → visiting.Outcome n rows' exits' a l (Visited.Finished e unvisited) l'
-      → (x : End) × (e ≡ ended_of x) × (F : Follows p (take (codels p) map') (given_of a) (room_of l.run) x)
+  pub picture_visits : (l : visiting.Lends) {v : Visited} {l' : visiting.Lends}
+      → visiting.Outcome n rows' exits' a l (Ok v) l'
+      → (x : End) × (v.ended ≡ ended_of x) × (F : Follows p (take (codels p) map') (given_of a) (room_of l.run) x)
       × (l' ≡ visiting.done_with n rows' exits' a l (entered_by F.history))
-      × (unvisited ≡ length (unvisited_of n rows' (λ r. count r (entered_by F.history))))
-  picture_visits l {e} {unvisited} q =
+      × (v.unvisited ≡ length (unvisited_of n rows' (λ r. count r (entered_by F.history))))
+  picture_visits l {v} q =
       let f = follows T.sound (given_of a) T.tabled (room_of l.run) T.begins in
       let same = sym (picture_history l.run q.history f.0).1 in
       let d = finished n rows' exits' a l q (not_refused n rows' exits' a l q) in
-      let listed : unvisited ≡ length (unvisited_of n rows' (λ r. count r (regions_of start q.history.exits))) = let z = d.0 in cc in (
+      let listed : v.unvisited ≡ length (unvisited_of n rows' (λ r. count r (regions_of start q.history.exits))) = ap unvisited_in d.0 in (
         end_of rows' exits' (given_of a) l.run,
-        q.ends e unvisited refl,
+        q.ends v refl,
         f.0,
         d.1 ∙ ap (visiting.done_with n rows' exits' a l) same,
         listed ∙ ap (λ (entered : List ℕ). length (unvisited_of n rows' (λ r. count r entered))) same,
       )
+    where
+      unvisited_in : Result Visited Refusal → ℕ
+      unvisited_in (Ok w) = w.unvisited
+      unvisited_in (Err r) = 0
 
   -- Demand 3 of a run that was stopped and resumed: `run` to the limit x came to MaxSteps (what it promises then is
   -- `Started`, by `Resumable`), and `resume` was called to the limit y.

@@ -17,6 +17,8 @@ use Rattle.machine.specs.Held.{room_of}
 use Rattle.machine.specs.Place.{End}
 use Rattle.cfg.specs.Build as building
 use Rattle.cfg.specs.Build.{Written}
+use Rattle.std.specs.Prelude.{Result}
+use Rattle.base.specs.declared.refusal.Refusal.{Refusal}
 use Rattle.piet.specs.declared.run_picture.Pictured.{Pictured}
 use Rattle.piet.specs.Follows.{Follows}
 use Rattle.piet.specs.RunPicture.{Asked, Lends, asked, asked_picture, refusals, refusal, refusal_of, RanPicture, Outcome, refused, done}
@@ -45,13 +47,13 @@ module _ (s t : ℕ) (pixels : List ℕ) (height width codel : ℕ) (asks : Asks
         run = R.run;
       }
 
-  same_outcome : {r : Pictured} {l' : Lends} → Outcome (asked pixels height width s codel asks) l r l' → Outcome (asked pixels height width t codel asks) l r l'
+  same_outcome : {r : Result Pictured Refusal} {l' : Lends} → Outcome (asked pixels height width s codel asks) l r l' → Outcome (asked pixels height width t codel asks) l r l'
   unfolding same_run
-  same_outcome (refused k v e q) = refused k v (same_refusal ∙ e) q
+  same_outcome (refused r e) = refused r (e ∙ sym same_refusal)
   same_outcome (done e R) = done (same_refusal ∙ e) (same_run R)
 
 -- what a call may do under 0 it may do under 2, and the other way round
-pub default_run : (pixels : List ℕ) (height width codel : ℕ) (asks : Asks) (l : Lends) {r : Pictured} {l' : Lends}
+pub default_run : (pixels : List ℕ) (height width codel : ℕ) (asks : Asks) (l : Lends) {r : Result Pictured Refusal} {l' : Lends}
     → (Outcome (asked pixels height width 0 codel asks) l r l' → Outcome (asked pixels height width 2 codel asks) l r l')
     × (Outcome (asked pixels height width 2 codel asks) l r l' → Outcome (asked pixels height width 0 codel asks) l r l')
 default_run pixels height width codel asks l = (

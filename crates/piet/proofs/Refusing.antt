@@ -1,6 +1,6 @@
 -- The refusals of a call: that of an unknown edition, those of classifying, and where there are none those of building. Assumes
 -- nothing.
-use mathlib.Core.Path.{◌≡◌, refl, sym, ap, ◌∙◌}
+use mathlib.Core.Path.{◌≡◌, refl, sym, ◌∙◌}
 use mathlib.Core.Bool.{Bool, true, false}
 use mathlib.Core.List.{List, [], ◌∷◌, ◌++◌}
 use Prim.Native.Nat.{ℕ, zero, suc, ◌*◌, ◌≤◌}
@@ -14,8 +14,7 @@ use Rattle.base.proofs.Tests.{neither}
 use Rattle.colour.specs.Classify as classifying
 use Rattle.cfg.specs.Build as building
 use Rattle.cfg.proofs.Refusing.{picture_none_refused, on_known as building-known}
-use Rattle.piet.specs.declared.run_picture.Pictured.TheVariants.{Refused}
-use Rattle.piet.specs.RunPicture.{Asked, Lends, asked_picture, refusals, refusal, refusal_of, Outcome, refused as refuse}
+use Rattle.piet.specs.RunPicture.{Asked, Lends, asked_picture, refusals, refusal, refusal_of}
 
 -- two tables of refusals, one after the other
 first_append : (a b : List Row) (last : Numbers) → first (a ++ b) last ≡ first a (first b last)
@@ -112,10 +111,9 @@ module _ (a : Asked) (l : Lends) where
   unfolding refusal refusals
   known v h = (passed _ 14 _ v _ _ h).0
 
-  pub accepted : (n : ℕ) (v : List ℕ) → n ≡ 0 → numbers n v ≡ refusal_of a l → Accepted
+  pub accepted : (v : List ℕ) → numbers 0 v ≡ refusal_of a l → Accepted
   unfolding classifying.answer
-  accepted n v none e =
-      let h : numbers 0 v ≡ refusal_of a l = ap (λ (k : ℕ). numbers k v) (sym none) ∙ e in
+  accepted v h =
       let u = known v h in
       let b = building.picture_refusal (asked_picture a) (length l.map) (length l.rows) (length l.exits) (length l.work) in
       let s = sym (on_known a (length l.colours) (length l.map) (length l.rows) (length l.exits) (length l.work) u) in
@@ -127,9 +125,3 @@ module _ (a : Asked) (l : Lends) where
         builds = sym (building-known a.asks.edition (asked_picture a) (length l.map) (length l.rows) (length l.exits) (length l.work) u) ∙ z;
         none = s ∙ P.next b ∙ z;
       }
-
--- a refusal changes nothing
-pub refuses : (a : Asked) (l : Lends) (n y x : ℕ) → (n ≡ 0 → ⊥) → numbers n (y ∷ x ∷ []) ≡ refusal_of a l
-    → Outcome a l (Refused n y x) l
-refuses a l zero y x some e = absurd (some refl)
-refuses a l (suc k) y x some e = refuse k (y ∷ x ∷ []) (sym e) refl

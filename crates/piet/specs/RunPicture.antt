@@ -1,7 +1,9 @@
 -- From pixels to a run's result, over lent room (rules 8.4 to 8.6, 12.5). Assumes nothing.
-use Rattle.std.specs.Prelude.{◌≡◌, List, [], ◌∷◌, ◌++◌, ℕ, suc, ◌<◌, length, take, ℤ}
+use Rattle.std.specs.Prelude.{◌≡◌, List, [], ◌∷◌, ◌++◌, ℕ, ◌<◌, length, take, ℤ, Result, Ok, Err}
 use Rattle.base.specs.Edition.{edition_of}
 use Rattle.base.specs.Numbers.{Numbers, numbers, Row, first}
+use Rattle.base.specs.Refusal.{place_cells, answered}
+use Rattle.base.specs.declared.refusal.Refusal.{Refusal}
 use Rattle.base.specs.Lent.{lent}
 use Rattle.picture.specs.Picture.{Picture, picture, codels}
 use Rattle.colour.specs.Classify as classifying
@@ -14,7 +16,6 @@ use Rattle.machine.specs.Held as held
 use Rattle.machine.specs.Held.{Slices, room_of}
 use Rattle.interpreter.specs.Outcome.{slices_of, ended_of, result_of}
 use Rattle.piet.specs.declared.run_picture.Pictured.{Pictured}
-use Rattle.piet.specs.declared.run_picture.Pictured.TheVariants.{Finished, Refused}
 use Rattle.piet.specs.Follows.{Follows}
 
 -- what a call is given, besides what it is lent
@@ -54,9 +55,8 @@ refusal_of a l = refusal a (length l.colours) (length l.map) (length l.rows) (le
 
 -- the refusal's number, with the place of an unknown pixel (rule 12.2); or 0, with the run's result and then the count of
 -- regions (rule 8.5)
-abbrev pub numbered : Pictured → Numbers
-numbered (Refused number y x) = numbers number (y ∷ x ∷ [])
-numbered (Finished e regions) = numbers 0 (result_of e ++ (regions ∷ []))
+abbrev pub numbered : Result Pictured Refusal → Numbers
+numbered = answered (λ p. result_of p.ended ++ (p.regions ∷ [])) place_cells
 
 -- what a call leaves that is not refused, where the run ends in e: one edition is that of the table and of the run. Demand 3
 -- is `follows`: the run is that of the picture, its regions numbered in the map by their first codels.
@@ -69,10 +69,10 @@ pub record RanPicture (a : Asked) (l l' : Lends) (e : End) : Type 0 where
   pub run : l'.run ≡ slices_of l.run e.at.store
 
 -- what a call answers and leaves: refused, with all that is lent as it was; or the end of the run, with the count of regions
-pub data Outcome (a : Asked) (l : Lends) : Pictured → Lends → Type 0 where
-  refused : {r : Pictured} (k : ℕ) (v : List ℕ) → refusal_of a l ≡ numbers (suc k) v → numbered r ≡ numbers (suc k) v → Outcome a l r l
+pub data Outcome (a : Asked) (l : Lends) : Result Pictured Refusal → Lends → Type 0 where
+  refused : (r : Refusal) → numbered (Err r) ≡ refusal_of a l → Outcome a l (Err r) l
   done : {e : End} {l' : Lends} → refusal_of a l ≡ numbers 0 (0 ∷ 0 ∷ []) → (R : RanPicture a l l' e)
-      → Outcome a l (Finished (ended_of e) R.regions) l'
+      → Outcome a l (Ok (record { ended = ended_of e; regions = R.regions })) l'
 
 -- the arguments of a call, in their order
 abbrev pub asked : List ℕ → ℕ → ℕ → ℕ → ℕ → Asks → Asked

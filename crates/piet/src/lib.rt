@@ -3,8 +3,9 @@
 
 pub mod run_picture;
 
-pub use cfg::{Built, build};
-pub use colour::classify::{Classified, classify};
-pub use colour::label::{Labelled, label};
-pub use interpreter::{Ended, Forever, Ran, determine_runs_forever, run, run_history};
+pub use base::refusal::Refusal;
+pub use cfg::build;
+pub use colour::classify::classify;
+pub use colour::label::label;
+pub use interpreter::{Ended, determine_runs_forever, run, run_history};
 pub use visits::{Visited, run_visits};

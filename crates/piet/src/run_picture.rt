@@ -1,35 +1,28 @@
 // From pixels to a run's result, over lent room: classifying, building and running, one after the other.
 ghost use Rattle.std.specs.Prelude.{◌≡◌, Bool, false, List, [], ◌∷◌, ℕ, ◌*◌, ◌<◌, length, get_or};
 ghost use Rattle.base.specs.Numbers.{numbers};
+ghost use Rattle.base.specs.Refusal.{tested};
 ghost use Rattle.base.specs.Limits.{wrong_side};
 ghost use Rattle.picture.specs.Picture.{picture};
 ghost use Rattle.colour.specs.Classify.{colours_under};
 ghost use Rattle.cfg.specs.Build as building;
 ghost use Rattle.machine.specs.Machine.{asks};
-ghost use Rattle.machine.specs.Held.{slices};
 ghost use Rattle.piet.specs.RunPicture.{Outcome, asked, lends, refusal};
-ghost use Rattle.piet.specs.Drawn.{RanTable, Draws};
+ghost use Rattle.piet.specs.Drawn.{Draws};
 
-use base::edition::{UNKNOWN_EDITION, unknown_edition};
+use base::edition::Edition;
 use base::limits::wrong_side;
-use cfg::{Built, codel_count, too_short};
-use colour::classify::{Told, colour_under, found_at, in_numbers, placeless};
+use base::refusal::Refusal;
+use cfg::{codel_count, too_short};
+use colour::classify::{colour_under, found_at};
 use colour::palette::WHITE;
-use interpreter::{Ended, Ran};
+use interpreter::Ended;
 
-// What a call answers: where the run stopped and how many regions the picture has, or a refusal with the place of an
-// unknown pixel.
+// Where the run stopped, and how many regions the picture has.
 #[derive(Clone, Copy)]
-pub enum Pictured {
-    Finished {
-        ended: Ended,
-        regions: usize,
-    },
-    Refused {
-        number: u32,
-        row: usize,
-        column: usize,
-    },
+pub struct Pictured {
+    pub ended: Ended,
+    pub regions: usize,
 }
 
 // The colour of the first pixel.
@@ -53,27 +46,27 @@ fn check_table(
     rows: usize,
     exits: usize,
     work: usize,
-) -> u32
+) -> Result<(), Refusal>
     requires height_value { (wrong_side height ≡ false) × (wrong_side width ≡ false) }
     requires pixels_len { length pixels.now ≡ 3 * (height * width) }
-    ensures { numbers result (0 ∷ 0 ∷ []) ≡ building.picture_refusal (picture height width codel (colours_under pixels.now setting)) map rows exits work }
+    ensures { tested result ≡ building.picture_refusal (picture height width codel (colours_under pixels.now setting)) map rows exits work }
 {
     if wrong_side(codel) {
-        return 6;
+        return Err(Refusal::Codel);
     }
     let count = codel_count(height, width, codel);
     if 65536 < count {
-        return 7;
+        return Err(Refusal::Grid);
     }
     let colour = first_colour(pixels, setting);
     let short = too_short(count, map, rows, exits, work);
     if colour == WHITE {
-        return 9;
+        return Err(Refusal::White);
     }
     if short {
-        return 4;
+        return Err(Refusal::Room);
     }
-    0
+    Ok(())
 }
 
 // All tests, that of the edition first, then those of classifying (rule 12.5). Nothing is written.
@@ -89,56 +82,14 @@ fn check(
     rows: usize,
     exits: usize,
     work: usize,
-) -> Told
-    ensures { (limit : ℕ) (mode : Bool) (input : List ℕ) → numbers result.number (result.row ∷ result.column ∷ []) ≡ refusal (asked pixels.now height width setting codel (asks edition limit mode input)) colours map rows exits work }
+) -> Result<(), Refusal>
+    ensures { (limit : ℕ) (mode : Bool) (input : List ℕ) → tested result ≡ refusal (asked pixels.now height width setting codel (asks edition limit mode input)) colours map rows exits work }
 {
-    if unknown_edition(edition) {
-        return placeless(UNKNOWN_EDITION);
-    }
-    let answer = colour::classify::check(pixels, height, width, setting, colours);
-    let tested = in_numbers(answer);
-    if tested.number != 0 {
-        return tested;
-    }
-    placeless(check_table(
+    Edition::try_from(edition)?;
+    colour::classify::check(pixels, height, width, setting, colours)?;
+    check_table(
         pixels, height, width, setting, codel, map, rows, exits, work,
-    ))
-}
-
-// The run of a table of n regions, with its answer as that of a picture.
-fn run_table(
-    n: usize,
-    rows: &[u32],
-    exits: &[u32],
-    edition: u32,
-    limit: u64,
-    abstract_mode: bool,
-    input: &[u8],
-    stack: &mut [i64],
-    kinds: &mut [u8],
-    values: &mut [i64],
-) -> Pictured
-    ensures { RanTable n rows.now exits.now (asks edition limit abstract_mode input.now) (slices stack.old kinds.old values.old) result (slices stack.new kinds.new values.new) }
-{
-    match interpreter::run(
-        n,
-        rows,
-        exits,
-        edition,
-        limit,
-        abstract_mode,
-        input,
-        stack,
-        kinds,
-        values,
-    ) {
-        Ran::Finished(ended) => Pictured::Finished { ended, regions: n },
-        Ran::Refused(number) => Pictured::Refused {
-            number,
-            row: 0,
-            column: 0,
-        },
-    }
+    )
 }
 
 // The table of colours that building does not refuse, and its run.
@@ -158,33 +109,26 @@ fn run_colours(
     stack: &mut [i64],
     kinds: &mut [u8],
     values: &mut [i64],
-) -> Pictured
+) -> Result<Pictured, Refusal>
     requires { building.refusal edition (picture height width codel colours.now) (length map.old) (length rows.old) (length exits.old) (length work.old) ≡ numbers 0 (0 ∷ 0 ∷ []) }
     ensures { Draws height width codel (asks edition limit abstract_mode input.now) (lends colours.now map.old rows.old exits.old work.old stack.old kinds.old values.old) result (lends colours.now map.new rows.new exits.new work.new stack.new kinds.new values.new) }
 {
-    let built = cfg::build(
+    let regions = cfg::build(
         colours, height, width, codel, edition, map, rows, exits, work,
-    );
-    if let Built::Done { regions } = built {
-        return run_table(
-            regions,
-            rows,
-            exits,
-            edition,
-            limit,
-            abstract_mode,
-            input,
-            stack,
-            kinds,
-            values,
-        );
-    }
-    // never reached: what building refuses is not passed on
-    Pictured::Refused {
-        number: 0,
-        row: 0,
-        column: 0,
-    }
+    )?;
+    let ended = interpreter::run(
+        regions,
+        rows,
+        exits,
+        edition,
+        limit,
+        abstract_mode,
+        input,
+        stack,
+        kinds,
+        values,
+    )?;
+    Ok(Pictured { ended, regions })
 }
 
 // The run of a picture of pixels: its colours, its table and the run's stack and outputs stand in the lent slices. Table
@@ -207,10 +151,10 @@ pub fn run_picture(
     stack: &mut [i64],
     kinds: &mut [u8],
     values: &mut [i64],
-) -> Pictured
+) -> Result<Pictured, Refusal>
     ensures { Outcome (asked pixels.now height width setting codel (asks edition limit abstract_mode input.now)) (lends colours.old map.old rows.old exits.old work.old stack.old kinds.old values.old) result (lends colours.new map.new rows.new exits.new work.new stack.new kinds.new values.new) }
 {
-    let refusal = check(
+    check(
         pixels,
         height,
         width,
@@ -222,15 +166,8 @@ pub fn run_picture(
         rows.len(),
         exits.len(),
         work.len(),
-    );
-    if refusal.number != 0 {
-        return Pictured::Refused {
-            number: refusal.number,
-            row: refusal.row,
-            column: refusal.column,
-        };
-    }
-    colour::classify::classify(pixels, height, width, setting, colours);
+    )?;
+    colour::classify::classify(pixels, height, width, setting, colours)?;
     let n = height * width;
     run_colours(
         &colours[..n],

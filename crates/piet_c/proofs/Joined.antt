@@ -10,8 +10,9 @@ use Rattle.base.specs.Counting.{count}
 use Rattle.base.specs.Lent.{lent}
 use Rattle.base.specs.Numbers.{Numbers, number_of, values_of}
 use Rattle.picture.specs.Picture.{Picture, codels}
-use Rattle.cfg.specs.declared.building.Built.{Built}
-use Rattle.cfg.specs.declared.building.Built.TheVariants.{Done, Size, Codel, Grid, Bytes, Colour, White, Room, UnknownEdition}
+use Rattle.std.specs.Prelude.{Result, Ok, Err}
+use Rattle.base.specs.declared.refusal.Refusal.{Refusal}
+use Rattle.base.proofs.RefusalLaws.{number_some}
 use Rattle.cfg.specs.Build as building
 use Rattle.machine.specs.Machine.{Asks, given_of}
 use Rattle.machine.specs.Place.{End}
@@ -26,8 +27,6 @@ use Rattle.visits.proofs.Only.{visits_finished}
 use Rattle.piet.specs.Follows.{entered_by, Follows}
 use Rattle.piet.specs.Decoded.{onto}
 use Rattle.piet.proofs.BuiltTables.{picture_follows, picture_moves, picture_visits}
-use Rattle.netpbm.specs.declared.writing.Written.{Written}
-use Rattle.netpbm.specs.declared.writing.Written.TheVariants.{Done as Wrote, Size as WrongSize, Bytes as WrongBytes, Room as NoRoom}
 use Rattle.netpbm.specs.Reads as reading
 use Rattle.netpbm.specs.Writes as writing
 use Rattle.netpbm.proofs.RoundTrip.{round_trip}
@@ -43,22 +42,15 @@ done_made {a = a} (made n h (r, e, o) z w) =
     (r, z ∙ sym (ap number_of e), w ∙ sym (ap (λ (x : Numbers). lent (values_of x) a) e), o)
 
 -- where 0 was returned the answer's first cell is the count of regions
-counted : (r : Built) (a : List ℕ) {a' : List ℕ} → 0 ≡ number_of (building.numbered r) → a' ≡ lent (values_of (building.numbered r)) a
-    → r ≡ Done (get_or a' 0 0)
+counted : (r : Result ℕ Refusal) (a : List ℕ) {a' : List ℕ} → 0 ≡ number_of (building.numbered r) → a' ≡ lent (values_of (building.numbered r)) a
+    → r ≡ Ok (get_or a' 0 0)
 unfolding lent
-counted (Done n) a e w = ap Done (sym (ap (λ (x : List ℕ). get_or x 0 0) w))
-counted Size a e w = absurd (omega arith)
-counted Bytes a e w = absurd (omega arith)
-counted Room a e w = absurd (omega arith)
-counted Codel a e w = absurd (omega arith)
-counted Grid a e w = absurd (omega arith)
-counted (Colour index) a e w = absurd (omega arith)
-counted White a e w = absurd (omega arith)
-counted UnknownEdition a e w = absurd (omega arith)
+counted (Ok n) a e w = ap Ok (sym (ap (λ (x : List ℕ). get_or x 0 0) w))
+counted (Err r) a e w = absurd (number_some r (sym e))
 
 -- so the table stands in the slices
 table : {edition : ℕ} {p : Picture} {s s' : TableRoom} {a a' : List ℕ} → Exported 2 (BuildCall edition p s) s a 0 s' a'
-    → building.Outcome edition p s.map s.rows s.exits s.work (Done (get_or a' 0 0)) s'.map s'.rows s'.exits s'.work
+    → building.Outcome edition p s.map s.rows s.exits s.work (Ok (get_or a' 0 0)) s'.map s'.rows s'.exits s'.work
 table {a = a} x = let m = done_made x in rw (sym (counted m.0 a m.1 m.2)) m.3
 
 -- `piet_build` returned 0, and `piet_run` was called with the first cell of its answer as n, on the rows and exits that it
@@ -100,27 +92,25 @@ c_picture_visits q {s' = s'} {a' = a'} o l {b} {l' = l'} v =
     let n = get_or a' 0 0 in
     let m = done_made v in
     let f = visits_finished n s'.rows s'.exits q l m.3 m.1 in
-    let t = picture_visits q (table o) l (subst (λ (r : Visited). visiting.Outcome n s'.rows s'.exits q l r l') f.2 m.3) in (
+    let t = picture_visits q (table o) l (subst (λ (r : Result Visited Refusal). visiting.Outcome n s'.rows s'.exits q l r l') f.1 m.3) in (
       t.0,
       t.2,
       t.3,
       m.2
-          ∙ ap (λ (r : Visited). lent (values_of (visiting.numbered r)) b) f.2
+          ∙ ap (λ (r : Result Visited Refusal). lent (values_of (visiting.numbered r)) b) f.1
           ∙ ap₂ (λ (e : Ended) (u : ℕ). lent (result_of e ++ (u ∷ [])) b) t.1 t.4,
     )
 
 -- where 0 was returned the answer's first cell is the length of the file
-measured : (r : Written) (a : List ℕ) {a' : List ℕ} → 0 ≡ number_of (writing.numbered r) → a' ≡ lent (values_of (writing.numbered r)) a
-    → r ≡ Wrote (get_or a' 0 0)
+measured : (r : Result ℕ Refusal) (a : List ℕ) {a' : List ℕ} → 0 ≡ number_of (writing.numbered r) → a' ≡ lent (values_of (writing.numbered r)) a
+    → r ≡ Ok (get_or a' 0 0)
 unfolding lent
-measured (Wrote n) a e w = ap Wrote (sym (ap (λ (x : List ℕ). get_or x 0 0) w))
-measured WrongSize a e w = absurd (omega arith)
-measured WrongBytes a e w = absurd (omega arith)
-measured NoRoom a e w = absurd (omega arith)
+measured (Ok n) a e w = ap Ok (sym (ap (λ (x : List ℕ). get_or x 0 0) w))
+measured (Err r) a e w = absurd (number_some r (sym e))
 
 -- so the file stands at the start of what was lent
 file_written : {pixels : List ℕ} {height width : ℕ} {before after a a' : List ℕ} → Exported 1 (WriteP6Call pixels height width before) before a 0 after a'
-    → writing.Outcome pixels height width before (Wrote (get_or a' 0 0)) after
+    → writing.Outcome pixels height width before (Ok (get_or a' 0 0)) after
 file_written {a = a} x = let m = done_made x in rw (sym (measured m.0 a m.1 m.2)) m.3
 
 -- `piet_write_p6` returned 0, and `piet_read_p6` was given as many of the bytes that it wrote as the first cell of its answer

@@ -19,6 +19,8 @@ use Rattle.colour.specs.Classify as classifying
 use Rattle.colour.specs.Label as labelling
 use Rattle.cfg.specs.Build as building
 use Rattle.cfg.proofs.Refusing.{outcome_only}
+use Rattle.std.specs.Prelude.{Result}
+use Rattle.base.specs.declared.refusal.Refusal.{Refusal}
 use Rattle.piet.specs.declared.run_picture.Pictured.{Pictured}
 use Rattle.piet.specs.RunPicture as picturing
 use Rattle.piet.specs.RunPicture.{Asked, Lends}
@@ -83,7 +85,7 @@ tells k rows exits n n' s s' (r, e, o) (r', e', o') = (sym e ∙ o ∙ sym o' �
 pub pictures : (a : Asked) (l : Lends) → Settles (PictureCall a l)
 pictures a l n n' s s' (r, e, o) (r', e', o') =
     let d = run_picture_only o o' in
-    (sym e ∙ ap (λ (x : Pictured). padded picture_cells (picturing.numbered x)) d.0 ∙ e', d.1)
+    (sym e ∙ ap (λ (x : Result Pictured Refusal). padded picture_cells (picturing.numbered x)) d.0 ∙ e', d.1)
 
 pub reads_p6 : (file pixels : List ℕ) → Settles (ReadP6Call file pixels)
 reads_p6 file pixels n n' s s' (r, e, o) (r', e', o') =

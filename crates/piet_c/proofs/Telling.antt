@@ -1,12 +1,12 @@
 -- Writing the values of an answer. Assumes nothing.
-use mathlib.Core.Path.{◌≡◌, refl, sym, ap, ap₂, ◌∙◌}
+use mathlib.Core.Path.{◌≡◌, refl, ap, ap₂, subst, ◌∙◌}
 use mathlib.Core.List.{List, [], ◌∷◌, ◌++◌}
-use Prim.Native.Nat.{ℕ, suc, ◌+◌, ◌<◌, ◌≤◌}
+use Prim.Native.Nat.{ℕ, zero, suc, ◌+◌, ◌-◌, ◌<◌, ◌≤◌}
 use native.Mathlib.Nat.{le_of_suc-le-suc}
 use native.Mathlib.Omega.{arith}
-use lib.ListN.{length, drop, set, replicate, length-set, length-replicate}
-use Rattle.base.specs.Lent.{over, lent, filled}
-use Rattle.base.proofs.Over.{over_none, over_one, over_over, over_zero, filled_zero}
+use lib.ListN.{length, drop, set, replicate, length-set}
+use Rattle.base.specs.Lent.{over, lent}
+use Rattle.base.proofs.Over.{over_none, over_one, over_over, over_zero}
 use Rattle.base.specs.Numbers.{Numbers, numbers, number_of, values_of}
 use Rattle.piet_c.specs.Exported.{Exported, made}
 
@@ -37,12 +37,14 @@ next_put (w ∷ v) [] x h = absurd (omega arith)
 next_put (w ∷ v) (y ∷ l) x h = ap (λ (t : List ℕ). w ∷ t) (next_put v l x (le_of_suc-le-suc h))
 
 -- a place over zeros
-pub place_put : (l : List ℕ) {l₁ l₂ : List ℕ} (row column n : ℕ) → l₁ ≡ filled 0 (suc (suc n)) 0 l → l₂ ≡ lent (row ∷ column ∷ []) l₁
-    → l₂ ≡ lent (row ∷ column ∷ replicate n 0) l
+pub place_put : (l : List ℕ) {l₁ l₂ : List ℕ} (row column cells : ℕ) → 2 ≤ cells → l₁ ≡ lent (replicate cells 0) l → l₂ ≡ lent (row ∷ column ∷ []) l₁
+    → l₂ ≡ lent (row ∷ column ∷ replicate (cells - 2) 0) l
 unfolding lent
-place_put l row column n p q =
-    q ∙ ap (λ (t : List ℕ). row ∷ column ∷ drop 2 t) (p ∙ filled_zero l (suc (suc n)) 0)
-    ∙ ap (λ (k : ℕ). row ∷ column ∷ (replicate n 0 ++ drop (suc (suc k)) l)) (sym (length-replicate n 0))
+place_put l row column zero h p q = absurd (omega arith)
+place_put l row column (suc zero) h p q = absurd (omega arith)
+place_put l {l₂ = l₂} row column (suc (suc n)) h p q =
+    let e : n ≡ suc (suc n) - 2 = omega arith in
+    subst (λ (k : ℕ). l₂ ≡ lent (row ∷ column ∷ replicate k 0) l) e (q ∙ ap (λ (t : List ℕ). row ∷ column ∷ drop 2 t) p)
 
 -- a call whose numbers were told
 pub told : {S : Type 0} {Makes : Numbers → S → Type 0} {need : ℕ} {before after : S} {answer answer' : List ℕ} (number : ℕ) (values : List ℕ) {n : Numbers}

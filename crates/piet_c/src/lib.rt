@@ -7,39 +7,20 @@ pub mod run_history;
 pub mod run_picture;
 pub mod run_visits;
 
-ghost use Rattle.std.specs.Prelude.{◌≡◌, ◌∷◌, [], ◌≤◌, length};
+ghost use Rattle.std.specs.Prelude.{◌≡◌, ◌∷◌, [], ◌++◌, ◌-◌, ◌≤◌, length, replicate};
 ghost use Rattle.base.specs.Lent.{lent};
-ghost use Rattle.base.specs.Numbers.{numbers, number_of, values_of};
+ghost use Rattle.base.specs.Numbers.{number_of, values_of};
+ghost use Rattle.base.specs.Refusal.{number_of_refusal, place_cells};
 ghost use Rattle.picture.specs.Picture.{picture};
-ghost use Rattle.colour.specs.Label as labelling;
-ghost use Rattle.cfg.specs.Build as building;
 ghost use Rattle.machine.specs.Machine.{asks};
 ghost use Rattle.machine.specs.Held as held;
 ghost use Rattle.interpreter.specs.Outcome as running;
-ghost use Rattle.interpreter.specs.Forever as always;
 ghost use Rattle.piet_c.specs.Exported.{Exported};
 ghost use Rattle.piet_c.specs.Calls.{ClassifyCall, LabelCall, BuildCall, table_room, RunCall, ForeverCall};
 
-use base::edition::UNKNOWN_EDITION;
 use base::fill::fill;
-use cfg::Built;
-use colour::classify::in_numbers;
-use colour::label::Labelled;
-use interpreter::{Ended, Forever, Ran};
-
-// An answer of one value, and of two.
-#[derive(Clone, Copy)]
-struct One {
-    number: u32,
-    value: u64,
-}
-
-#[derive(Clone, Copy)]
-struct Two {
-    number: u32,
-    first: u64,
-    second: u64,
-}
+use base::refusal::Refusal;
+use interpreter::Ended;
 
 // The cells of a run's answer (rule 8.5).
 const RUN_ANSWER: usize = 12;
@@ -84,71 +65,37 @@ fn put_ended(answer: &mut [u64], e: Ended)
     answer[11] = skips.out_of_range;
 }
 
-// Writes the values of a run's answer, and gives its number; a refusal has zeros.
-fn put_ran(answer: &mut [u64], r: Ran) -> u32
+// Writes zeros, as many as a call's values, and gives the refusal's number.
+fn refuse(answer: &mut [u64], cells: usize, refusal: Refusal) -> u32
+    requires { cells ≤ length answer.old }
+    ensures { (result ≡ number_of_refusal refusal) × (answer.new ≡ lent (replicate cells 0) answer.old) }
+{
+    fill(answer, 0, cells, 0);
+    refusal.number()
+}
+
+// The same with the place that the refusal names in the first two cells.
+fn refuse_at(answer: &mut [u64], cells: usize, refusal: Refusal) -> u32
+    requires { (2 ≤ cells) × (cells ≤ length answer.old) }
+    ensures { (result ≡ number_of_refusal refusal) × (answer.new ≡ lent (place_cells refusal ++ replicate (cells - 2) 0) answer.old) }
+{
+    let number = refuse(answer, cells, refusal);
+    let (first, second) = refusal.place();
+    put_two(answer, first as u64, second as u64);
+    number
+}
+
+// Writes the values of a run's answer, and gives its number.
+fn put_ran(answer: &mut [u64], r: Result<Ended, Refusal>) -> u32
     requires { running.result_cells ≤ length answer.old }
     ensures { (result ≡ number_of (running.numbered r)) × (answer.new ≡ lent (values_of (running.numbered r)) answer.old) }
 {
     match r {
-        Ran::Refused(number) => {
-            fill(answer, 0, RUN_ANSWER, 0);
-            number
-        }
-        Ran::Finished(e) => {
+        Ok(e) => {
             put_ended(answer, e);
             0
         }
-    }
-}
-
-// A number whose values are zeros.
-fn plain(number: u32) -> Two
-    ensures { numbers result.number (result.first ∷ result.second ∷ []) ≡ numbers number (0 ∷ 0 ∷ []) }
-{
-    Two {
-        number,
-        first: 0,
-        second: 0,
-    }
-}
-
-// The count of regions is the first value, the index of a colour the second.
-fn of_built(r: Built) -> Two
-    ensures { numbers result.number (result.first ∷ result.second ∷ []) ≡ building.numbered r }
-{
-    match r {
-        Built::Done { regions } => Two {
-            number: 0,
-            first: regions as u64,
-            second: 0,
-        },
-        Built::Size => plain(1),
-        Built::Bytes => plain(2),
-        Built::Room => plain(4),
-        Built::Codel => plain(6),
-        Built::Grid => plain(7),
-        Built::Colour { index } => Two {
-            number: 8,
-            first: 0,
-            second: index as u64,
-        },
-        Built::White => plain(9),
-        Built::UnknownEdition => plain(UNKNOWN_EDITION),
-    }
-}
-
-fn of_labelled(r: Labelled) -> One
-    ensures { numbers result.number (result.value ∷ []) ≡ labelling.numbered r }
-{
-    match r {
-        Labelled::Done { length } => One {
-            number: 0,
-            value: length as u64,
-        },
-        Labelled::Label => One {
-            number: 12,
-            value: 0,
-        },
+        Err(refusal) => refuse(answer, RUN_ANSWER, refusal),
     }
 }
 
@@ -166,9 +113,13 @@ pub fn piet_classify(
     if answer.len() < 2 {
         return 4;
     }
-    let told = in_numbers(colour::classify::classify(pixels, height, width, setting, colours));
-    put_two(answer, told.row as u64, told.column as u64);
-    told.number
+    match colour::classify::classify(pixels, height, width, setting, colours) {
+        Ok(()) => {
+            put_two(answer, 0, 0);
+            0
+        }
+        Err(refusal) => refuse_at(answer, 2, refusal),
+    }
 }
 
 // The label of a region; answer: its length.
@@ -178,9 +129,13 @@ pub fn piet_label(colour: u8, row: usize, column: usize, out: &mut [u8], answer:
     if answer.len() < 1 {
         return 4;
     }
-    let told = of_labelled(colour::label::label(colour, row, column, out));
-    put_one(answer, told.value);
-    told.number
+    match colour::label::label(colour, row, column, out) {
+        Ok(length) => {
+            put_one(answer, length as u64);
+            0
+        }
+        Err(refusal) => refuse(answer, 1, refusal),
+    }
 }
 
 // The table of a picture in an edition; answer: the count of regions, the index of the first colour above 19.
@@ -201,29 +156,14 @@ pub fn piet_build(
     if answer.len() < 2 {
         return 4;
     }
-    let told = of_built(cfg::build(
+    match cfg::build(
         colours, height, width, codel, edition, map, rows, exits, work,
-    ));
-    put_two(answer, told.first, told.second);
-    told.number
-}
-
-fn of_forever(r: Forever) -> One
-    ensures { numbers result.number (result.value ∷ []) ≡ always.numbered r }
-{
-    match r {
-        Forever::Refused => One {
-            number: 10,
-            value: 0,
-        },
-        Forever::Yes => One {
-            number: 0,
-            value: 1,
-        },
-        Forever::No => One {
-            number: 0,
-            value: 0,
-        },
+    ) {
+        Ok(regions) => {
+            put_two(answer, regions as u64, 0);
+            0
+        }
+        Err(refusal) => refuse_at(answer, 2, refusal),
     }
 }
 
@@ -234,9 +174,13 @@ pub fn piet_determine_runs_forever(n: usize, rows: &[u32], exits: &[u32], answer
     if answer.len() < 1 {
         return 4;
     }
-    let told = of_forever(interpreter::determine_runs_forever(n, rows, exits));
-    put_one(answer, told.value);
-    told.number
+    match interpreter::determine_runs_forever(n, rows, exits) {
+        Ok(forever) => {
+            put_one(answer, forever as u64);
+            0
+        }
+        Err(refusal) => refuse(answer, 1, refusal),
+    }
 }
 
 // A run over a table in an edition; answer: status, steps, region, dp, cc, depth, outputs, used, and the number lines

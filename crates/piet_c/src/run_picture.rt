@@ -7,8 +7,8 @@ ghost use Rattle.piet.specs.RunPicture.{asked, lends, numbered};
 ghost use Rattle.piet_c.specs.Exported.{Exported};
 ghost use Rattle.piet_c.specs.Calls.{picture_cells, padded, PictureCall};
 
-use crate::{RUN_ANSWER, put_ended, put_two};
-use base::fill::fill;
+use crate::{RUN_ANSWER, put_ended, refuse_at};
+use base::refusal::Refusal;
 use piet::run_picture::{Pictured, run_picture};
 
 // The cells of a picture's answer: a run's, and the count of regions.
@@ -16,25 +16,17 @@ const PICTURE_ANSWER: usize = RUN_ANSWER + 1;
 
 // Writes the values of a picture's run, and gives the number: the run's and the count of regions, or the place of an
 // unknown pixel and zeros.
-fn put_pictured(answer: &mut [u64], r: Pictured) -> u32
+fn put_pictured(answer: &mut [u64], r: Result<Pictured, Refusal>) -> u32
     requires { picture_cells ≤ length answer.old }
     ensures { (result ≡ number_of (padded picture_cells (numbered r))) × (answer.new ≡ lent (values_of (padded picture_cells (numbered r))) answer.old) }
 {
     match r {
-        Pictured::Finished { ended, regions } => {
-            put_ended(answer, ended);
-            answer[RUN_ANSWER] = regions as u64;
+        Ok(pictured) => {
+            put_ended(answer, pictured.ended);
+            answer[RUN_ANSWER] = pictured.regions as u64;
             0
         }
-        Pictured::Refused {
-            number,
-            row,
-            column,
-        } => {
-            fill(answer, 0, PICTURE_ANSWER, 0);
-            put_two(answer, row as u64, column as u64);
-            number
-        }
+        Err(refusal) => refuse_at(answer, PICTURE_ANSWER, refusal),
     }
 }
 

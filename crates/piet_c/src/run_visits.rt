@@ -7,28 +7,25 @@ ghost use Rattle.visits.specs.Outcome.{lends, visit_cells, numbered};
 ghost use Rattle.piet_c.specs.Exported.{Exported};
 ghost use Rattle.piet_c.specs.Calls.{VisitsCall};
 
-use crate::{RUN_ANSWER, put_ended};
-use base::fill::fill;
+use crate::{RUN_ANSWER, put_ended, refuse};
+use base::refusal::Refusal;
 use visits::{Visited, run_visits};
 
 // The cells of its answer: a run's, and the count of nodes never entered.
 const VISITS_ANSWER: usize = RUN_ANSWER + 1;
 
 // Writes the values of the answer, and gives its number; a refusal has zeros.
-fn put_visited(answer: &mut [u64], r: Visited) -> u32
+fn put_visited(answer: &mut [u64], r: Result<Visited, Refusal>) -> u32
     requires { visit_cells ≤ length answer.old }
     ensures { (result ≡ number_of (numbered r)) × (answer.new ≡ lent (values_of (numbered r)) answer.old) }
 {
     match r {
-        Visited::Refused(number) => {
-            fill(answer, 0, VISITS_ANSWER, 0);
-            number
-        }
-        Visited::Finished { ended, unvisited } => {
-            put_ended(answer, ended);
-            answer[RUN_ANSWER] = unvisited as u64;
+        Ok(visited) => {
+            put_ended(answer, visited.ended);
+            answer[RUN_ANSWER] = visited.unvisited as u64;
             0
         }
+        Err(refusal) => refuse(answer, VISITS_ANSWER, refusal),
     }
 }
 

@@ -3,7 +3,6 @@
 // settings 1, 2 and 3, `x` where the pixel is refused.
 #![tactic(auto)]
 
-use colour::classify::Classified;
 use colour::decode::decode;
 use std::io;
 use std::io::Write;
@@ -22,12 +21,13 @@ fn print_pairs_from<W: Write>(out: &mut W, from: u8) -> io::Result<()> {
 
 fn print_colour<W: Write>(out: &mut W, pixel: &[u8], setting: u8) -> io::Result<()> {
     let mut colours = [0u8; 1];
-    let answer = colour::classify::classify(pixel, 1, 1, setting, &mut colours);
-    if let Classified::Done = answer {
-        let colour = colours[0];
-        return write!(out, "{colour}");
+    match colour::classify::classify(pixel, 1, 1, setting, &mut colours) {
+        Ok(()) => {
+            let colour = colours[0];
+            write!(out, "{colour}")
+        }
+        Err(_) => out.write_all(b"x"),
     }
-    out.write_all(b"x")
 }
 
 struct Pixel;

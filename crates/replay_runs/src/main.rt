@@ -9,7 +9,6 @@
 
 ghost use Rattle.std.specs.Prelude.{◌≤◌, length};
 
-use cfg::Built;
 use std::cmp::min;
 use std::io;
 use std::io::Write;
@@ -202,7 +201,7 @@ impl Record<5> for Question {
             &mut exits,
             &mut work,
         );
-        if let Built::Done { regions } = built {
+        if let Ok(regions) = built {
             let t = Table {
                 n: regions,
                 rows: &rows,

@@ -3,7 +3,7 @@
 // count of regions, the map, the rows and the exits.
 #![tactic(auto)]
 
-use cfg::Built;
+use base::refusal::Refusal;
 use std::cmp::min;
 use std::io;
 use std::io::Write;
@@ -43,15 +43,15 @@ impl Record<4> for Picture {
             &mut work,
         );
         match built {
-            Built::Done { regions } => {
+            Ok(regions) => {
                 let n = min(regions, 1024);
                 write!(out, "{n}")?;
                 print_first(out, &map, codel_count(height, width, codel))?;
                 print_first(out, &rows, table::rows_room(n))?;
                 print_first(out, &exits, table::exits_room(n))?;
             }
-            Built::White => out.write_all(b"refused 9")?,
-            _ => out.write_all(b"refused")?,
+            Err(Refusal::White) => out.write_all(b"refused 9")?,
+            Err(_) => out.write_all(b"refused")?,
         }
         out.write_all(b"\n")
     }

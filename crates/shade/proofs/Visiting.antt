@@ -13,7 +13,6 @@ use Rattle.base.specs.Counting.{count}
 use Rattle.base.specs.Edition.{rust_number, edition_of}
 use Rattle.base.specs.Lent.{Put}
 use Rattle.base.proofs.Clash.{clash}
-use Rattle.base.proofs.Refusals as refusing
 use Rattle.picture.specs.Picture.{Picture, cols_of, codels}
 use Rattle.picture.proofs.Codels.{cols_pos}
 use Rattle.table.specs.Layout.{rows_room, exits_room}
@@ -22,9 +21,12 @@ use Rattle.region.proofs.MapLaws.{map_few}
 use Rattle.cfg.specs.Build as building
 use Rattle.cfg.specs.Build.{Enough}
 use Rattle.machine.specs.Machine.{Asks}
-use Rattle.interpreter.specs.declared.Ended.{Ended}
 use Rattle.interpreter.specs.Table.{valid_of}
-use Rattle.visits.specs.declared.Visited.TheVariants.{Refused, Finished}
+use Rattle.std.specs.Prelude.{Ok, Err, Option, None}
+use Rattle.base.specs.Refusal.{number_of_refusal}
+use Rattle.base.specs.declared.refusal.Refusal.{Refusal}
+use Rattle.base.specs.declared.refusal.Refusal.TheVariants.{Limit}
+use Rattle.visits.specs.declared.Visited.{Visited}
 use Rattle.visits.specs.Outcome as visiting
 use Rattle.visits.specs.Outcome.{uncountable}
 use Rattle.visits.proofs.Answering.{Tested, unknown, wrong, endless, short, right, test_call, refused, finished}
@@ -57,25 +59,23 @@ pub laid_still : {job : List ℕ} {p : Parts} → LaidOut job p → LaidOut job 
 laid_still h = record { pixels = h.pixels; least = h.least; input = h.input; most = h.most; last = h.last }
 
 -- a refusal is printed
-pub prints_still : {job before after : List ℕ} {n y x r : ℕ} (c : Content) → IsJob job c → {l l' : Lends} → Sized l
-    → running.Outcome (asked_of (still_said c)) l (Pictured.Refused n y x) l' → Put before 0 (refusal_text n) r after → Prints Shaded job before r after
+pub prints_still : {job before after : List ℕ} {n : Refusal} {r : ℕ} (c : Content) → IsJob job c → {l l' : Lends} → Sized l
+    → running.Outcome (asked_of (still_said c)) l (Err n) l' → Put before 0 (refusal_text (number_of_refusal n)) r after → Prints Shaded job before r after
 prints_still c j s o p =
-    let (k, v, e, h) = refusal_is _ refl o in
+    let (k, v, e, h) = refusal_is o in
     prints (rw e (program.refused c j k v (sym (still_refusal c) ∙ sym (same_refusal (still_said c) s) ∙ h))) p
 
 -- a run of a job's picture that finished left its table, of no step too
-pub tabled : (c : Content) {l l' : Lends} {x : Ended} {n : ℕ} → Sized l → (r : Pictured) → r ≡ Pictured.Finished x n → running.Outcome (asked_of (still_said c)) l r l'
-    → JobTable c n l'.map l'.rows l'.exits
-tabled c s r z (running.refused k v h q) = absurd (refusing.refused k v _ (sym q ∙ ap running.numbered z))
-tabled c {l} {l'} {n = n} s r z (running.done none R) =
-    let same : R.regions ≡ n = cc in
-    rw (← same) (record {
+pub tabled : (c : Content) {l l' : Lends} {x : Pictured} → Sized l → running.Outcome (asked_of (still_said c)) l (Ok x) l'
+    → JobTable c x.regions l'.map l'.rows l'.exits
+tabled c {l} {l'} s (running.done none R) =
+    record {
       none = sym (still_refusal c) ∙ sym (same_refusal (still_said c) s) ∙ none;
       lent = l;
       work = l'.work;
-      accepted = (picture.accepted (asked_of (still_said c)) l 0 (0 ∷ 0 ∷ []) refl (sym none)).builds;
+      accepted = (picture.accepted (asked_of (still_said c)) l (0 ∷ 0 ∷ []) (sym none)).builds;
       written = R.table;
-    })
+    }
 
 -- what is lent to the run that is counted
 abbrev pub fresh : visiting.Lends
@@ -128,22 +128,22 @@ module _ {c : Content} {n : ℕ} {map rows exits : List ℕ} (T : JobTable c n m
   roomy = rw (le-ltb 512 n (omega (arith, few, room.map_in))) refl
 
   -- refused: the limit is too large, and 16 says so
-  refused_limit : {k : ℕ} {l' : visiting.Lends} → visiting.Outcome n rows exits a fresh (Refused k) l' → (c.limit ≡ uncountable) × (k ≡ 16)
+  refused_limit : {k : Refusal} {l' : visiting.Lends} → visiting.Outcome n rows exits a fresh (Err k) l' → (c.limit ≡ uncountable) × (k ≡ Limit)
   refused_limit {k} o = let t = test_call n rows exits a fresh in go t.1
     where
-      go : {i : ℕ} → Tested n rows exits a fresh i → (c.limit ≡ uncountable) × (k ≡ 16)
+      go : {i : Option Refusal} → Tested n rows exits a fresh i → (c.limit ≡ uncountable) × (k ≡ Limit)
       go (unknown u) = absurd (true≢false (sym u))
       go (wrong u v) = absurd (true≢false (sym table_valid ∙ v))
       go (endless u v m) = (eqb-true _ _ m, (let z = (refused n rows exits a fresh o (endless u v m)).0 in cc))
       go (short u v m s) = absurd (true≢false (sym s ∙ roomy))
       go (right u v m s) = let z = (finished n rows exits a fresh o (right u v m s)).0 in clash cc
 
-  pub shows_refusal : {k r : ℕ} {l' : visiting.Lends} {before after : List ℕ} → visiting.Outcome n rows exits a fresh (Refused k) l'
-      → Put before 0 (refusal_text k) r after → PutShaded c before r after
-  shows_refusal o put = let l = refused_limit o in record { text = _; shaded = uncounted l.0 (ap refusal_text l.1); put = put }
+  pub shows_refusal : {k : Refusal} {r : ℕ} {l' : visiting.Lends} {before after : List ℕ} → visiting.Outcome n rows exits a fresh (Err k) l'
+      → Put before 0 (refusal_text (number_of_refusal k)) r after → PutShaded c before r after
+  shows_refusal o put = let l = refused_limit o in record { text = _; shaded = uncounted l.0 (ap (λ (i : Refusal). refusal_text (number_of_refusal i)) l.1); put = put }
 
   -- finished: the cells have the counts of the picture's walk
-  pub shows_counts : {e : Ended} {u r : ℕ} {l' : visiting.Lends} {before after : List ℕ} → visiting.Outcome n rows exits a fresh (Finished e u) l'
+  pub shows_counts : {v : Visited} {r : ℕ} {l' : visiting.Lends} {before after : List ℕ} → visiting.Outcome n rows exits a fresh (Ok v) l'
       → Put before 0 (cells_text map l'.visits (cols_of p) (codels p)) r after → PutShaded c before r after
   shows_counts {l' = l'} o put =
       let (x, _, F, left, _) = picture_visits a (building.done T.accepted T.written) fresh o in
@@ -158,5 +158,5 @@ module _ {c : Content} {n : ℕ} {map rows exits : List ℕ} (T : JobTable c n m
         put = put;
       }
     where
-      countable : Tested n rows exits a fresh 0 → c.limit ≡ uncountable → ⊥
+      countable : Tested n rows exits a fresh None → c.limit ≡ uncountable → ⊥
       countable (right u v m s) h = true≢false (sym (eq-eqb _ _ h) ∙ m)

@@ -15,9 +15,8 @@ use base::edition::RUST_EDITION;
 use base::put::{put_number, put_word};
 use job::Parts;
 use picture::shape::shape_of;
-use piet::run_picture::Pictured;
 use report::put_refusal;
-use visits::{Visited, run_visits};
+use visits::run_visits;
 
 // Room for the longest text: 512 counts of 20 digits, each with a byte after it, take 10,752 bytes.
 const ROOM: usize = 16384;
@@ -101,8 +100,8 @@ fn put_visits(
         &mut unvisited,
     );
     match visited {
-        Visited::Finished { .. } => put_picture(out, map, &visits, p.height, p.width, p.codel),
-        Visited::Refused(number) => put_refusal(out, number as u64),
+        Ok(_) => put_picture(out, map, &visits, p.height, p.width, p.codel),
+        Err(refusal) => put_refusal(out, refusal.number() as u64),
     }
 }
 
@@ -149,8 +148,8 @@ fn shade_job(job: &[u8], out: &mut [u8], p: Parts) -> usize
         &mut values,
     );
     match pictured {
-        Pictured::Finished { regions, .. } => put_visits(job, out, p, regions, &map, &rows, &exits),
-        Pictured::Refused { number, .. } => put_refusal(out, number as u64),
+        Ok(pictured) => put_visits(job, out, p, pictured.regions, &map, &rows, &exits),
+        Err(refusal) => put_refusal(out, refusal.number() as u64),
     }
 }
 

@@ -7,7 +7,7 @@ use lib.ListN.{length, take}
 use Rattle.base.specs.Edition.{rust_number, edition_of}
 use Rattle.base.specs.Numbers.{numbers}
 use Rattle.picture.specs.Picture.{Picture, codels}
-use Rattle.cfg.specs.declared.building.Built.TheVariants.{Done}
+use Rattle.std.specs.Prelude.{Ok}
 use Rattle.cfg.specs.Build as building
 use Rattle.flow.specs.Pointer.{Valid}
 use Rattle.machine.specs.Machine.{Given, RunRoom, Store, given_of}
@@ -18,7 +18,6 @@ use Rattle.interpreter.specs.Run.{Job}
 use Rattle.interpreter.specs.Outcome.{job_of, end_of, ended_of, slices_of}
 use Rattle.interpreter.proofs.Histories.{run_history}
 use Rattle.interpreter.proofs.ValidLaws.{good_of}
-use Rattle.piet.specs.declared.run_picture.Pictured.TheVariants.{Finished}
 use Rattle.piet.specs.Follows.{Follows}
 use Rattle.piet.specs.RunPicture as running
 use Rattle.piet.specs.RunPicture.{Lends, asked_picture}
@@ -40,7 +39,7 @@ slices_same : (k k' : Slices) (m : Store) → length k.stack ≡ length k'.stack
     → slices_of k m ≡ slices_of k' m
 slices_same k k' m a b c = rw (a, b, c) refl
 
-module _ (c : Content) {l l' : Lends} (s : Sized l) (s' : Sized l') {x : Ended} {n : ℕ} (o : running.Outcome (asked_of c) l (Finished x n) l') where
+module _ (c : Content) {l l' : Lends} (s : Sized l) (s' : Sized l') {x : Ended} {n : ℕ} (o : running.Outcome (asked_of c) l (Ok (record { ended = x; regions = n })) l') where
   abbrev p : Picture
   p = asked_picture (asked_of c)
 
@@ -51,7 +50,7 @@ module _ (c : Content) {l l' : Lends} (s : Sized l) (s' : Sized l') {x : Ended} 
   map = take (codels p) l'.map
 
   f : Finish (asked_of c) l l' x n
-  f = finish _ refl o
+  f = finish o
 
   none : refusal_of c ≡ numbers 0 (0 ∷ 0 ∷ [])
   none = sym (same_refusal c s) ∙ f.none
@@ -60,8 +59,8 @@ module _ (c : Content) {l l' : Lends} (s : Sized l) (s' : Sized l') {x : Ended} 
   table : Followed rust_number p l'.map l'.rows l'.exits n
   table =
       runs
-      (subst (λ (k : ℕ). building.Outcome rust_number p l.map l.rows l.exits l.work (Done k) l'.map l'.rows l'.exits l'.work) f.counted
-      (building.done (picture.accepted (asked_of c) l 0 (0 ∷ 0 ∷ []) refl (sym f.none)).builds f.runs.table))
+      (subst (λ (k : ℕ). building.Outcome rust_number p l.map l.rows l.exits l.work (Ok k) l'.map l'.rows l'.exits l'.work) f.counted
+      (building.done (picture.accepted (asked_of c) l (0 ∷ 0 ∷ []) (sym f.none)).builds f.runs.table))
 
   -- in the room of a job's run
   same_slices : room_of l'.run ≡ run_room

@@ -264,10 +264,10 @@ fn trace_job(job: &[u8], out: &mut [u8], p: Parts) -> usize
         &mut values,
     );
     match pictured {
-        Pictured::Finished { ended, regions } => trace_parts(
+        Ok(Pictured { ended, regions }) => trace_parts(
             job, out, p, regions, &rows, &exits, ended, &stack, &kinds, &values,
         ),
-        Pictured::Refused { number, .. } => put_refusal(out, number as u64),
+        Err(refusal) => put_refusal(out, refusal.number() as u64),
     }
 }
 

@@ -12,7 +12,7 @@
 use mathlib.Core.Path.{◌≡◌, refl, sym, ap, subst, ◌∙◌}
 use mathlib.Core.Bool.{Bool, true, false, cond, ◌&&◌}
 use mathlib.Core.List.{List}
-use Prim.Native.Nat.{ℕ, zero, suc, ◌+◌, ◌<◌, ◌≤◌}
+use Prim.Native.Nat.{ℕ, ◌+◌, ◌<◌, ◌≤◌}
 use native.Mathlib.Omega.{arith}
 use borrow.Author.Tests.{ne_eqb}
 use lib.Dec.{eqb, ltb}
@@ -39,7 +39,10 @@ use Rattle.interpreter.proofs.Answering.{answer_unknown, answer_wrong, answer_ri
 use Rattle.interpreter.proofs.Histories.{histories_same}
 use Rattle.interpreter.proofs.Entering.{entered_below}
 use Rattle.visits.specs.declared.Visited.{Visited}
-use Rattle.visits.specs.declared.Visited.TheVariants.{Refused, Finished}
+use Rattle.std.specs.Prelude.{Result, Ok, Err, Option, Some, None}
+use Rattle.base.specs.declared.refusal.Refusal as refusals
+use Rattle.base.proofs.RefusalLaws.{number_some}
+use Rattle.base.specs.declared.refusal.Refusal.TheVariants.{Edition, Table, Limit, Room}
 use Rattle.visits.specs.Visits.{unvisited_of, list_of}
 use Rattle.visits.specs.Outcome.{Lends, uncountable, too_short, numbered, ran_of, end, done_with, Outcome}
 use Rattle.visits.proofs.Starting.{counts_held}
@@ -47,86 +50,85 @@ use Rattle.visits.proofs.ListingLaws.{listed_node, list_length}
 use Rattle.visits.proofs.Answering.{Tested, unknown, wrong, endless, short, right, test_call, missed, refused, finished}
 
 module _ (n : ℕ) (rows exits : List ℕ) (a : Asks) (l : Lends) where
-  pub visits_only : {r r' : Visited} {l' l'' : Lends} → Outcome n rows exits a l r l' → Outcome n rows exits a l r' l'' → (r ≡ r') × (l' ≡ l'')
+  pub visits_only : {r r' : Result Visited refusals.Refusal} {l' l'' : Lends} → Outcome n rows exits a l r l' → Outcome n rows exits a l r' l'' → (r ≡ r') × (l' ≡ l'')
   visits_only {r} {r'} {l'} {l''} p q = let t = test_call n rows exits a l in go t.0 t.1
     where
-      same : {x : Visited} {y : Lends} → (r ≡ x) × (l' ≡ y) → (r' ≡ x) × (l'' ≡ y) → (r ≡ r') × (l' ≡ l'')
+      same : {x : Result Visited refusals.Refusal} {y : Lends} → (r ≡ x) × (l' ≡ y) → (r' ≡ x) × (l'' ≡ y) → (r ≡ r') × (l' ≡ l'')
       same u v = (u.0 ∙ sym v.0, u.1 ∙ sym v.1)
 
-      go : (k : ℕ) → Tested n rows exits a l k → (r ≡ r') × (l' ≡ l'')
-      go (suc k) t = same (refused n rows exits a l p t) (refused n rows exits a l q t)
-      go zero t =
+      go : (k : Option refusals.Refusal) → Tested n rows exits a l k → (r ≡ r') × (l' ≡ l'')
+      go (Some k) t = same (refused n rows exits a l p t) (refused n rows exits a l q t)
+      go None t =
           let e = histories_same (job_of rows exits (given_of a) l.run) q.history p.history in
           let x = finished n rows exits a l p t in
           let y = finished n rows exits a l q t in
-          same x (subst (λ (ws : List ℕ). let entered = regions_of start ws in (r' ≡ Finished (ended_of (end n rows exits a l)) (missed n rows exits a l entered)) × (l'' ≡ done_with n rows exits a l entered)) e y)
+          same x (subst (λ (ws : List ℕ). let entered = regions_of start ws in (r' ≡ Ok (record { ended = ended_of (end n rows exits a l); unvisited = missed n rows exits a l entered })) × (l'' ≡ done_with n rows exits a l entered)) e y)
 
-  pub visits_run : {r : Visited} {l' : Lends} → Outcome n rows exits a l r l' → (number_of (numbered r) ≡ 16 → ⊥) → (number_of (numbered r) ≡ 4 → ⊥)
+  pub visits_run : {r : Result Visited refusals.Refusal} {l' : Lends} → Outcome n rows exits a l r l' → (number_of (numbered r) ≡ 16 → ⊥) → (number_of (numbered r) ≡ 4 → ⊥)
       → running.Outcome n rows exits a l.run (ran_of r) l'.run
   unfolding numbered
   visits_run {r} {l'} o x y = go (test_call n rows exits a l).1
     where
-      given_by : {r' : Visited} {l'' : Lends} → (r ≡ r') × (l' ≡ l'') → running.Outcome n rows exits a l.run (ran_of r') l''.run
+      given_by : {r' : Result Visited refusals.Refusal} {l'' : Lends} → (r ≡ r') × (l' ≡ l'') → running.Outcome n rows exits a l.run (ran_of r') l''.run
           → running.Outcome n rows exits a l.run (ran_of r) l'.run
       given_by {r'} e q =
-          subst (λ (k : Visited). running.Outcome n rows exits a l.run (ran_of k) l'.run) (sym e.0)
+          subst (λ (k : Result Visited refusals.Refusal). running.Outcome n rows exits a l.run (ran_of k) l'.run) (sym e.0)
           (subst (λ (k : Lends). running.Outcome n rows exits a l.run (ran_of r') k.run) (sym e.1) q)
 
-      go : {k : ℕ} → Tested n rows exits a l k → running.Outcome n rows exits a l.run (ran_of r) l'.run
+      go : {k : Option refusals.Refusal} → Tested n rows exits a l k → running.Outcome n rows exits a l.run (ran_of r) l'.run
       go (unknown u) =
-          given_by (refused n rows exits a l o (unknown u)) (run_refuses n rows exits a l.run 14 (answer_unknown n rows exits a l.run u))
+          given_by (refused n rows exits a l o (unknown u)) (run_refuses n rows exits a l.run Edition (answer_unknown n rows exits a l.run u))
       go (wrong u v) =
-          given_by (refused n rows exits a l o (wrong u v)) (run_refuses n rows exits a l.run 9 (answer_wrong n rows exits a l.run u v))
-      go (endless u v m) = absurd (x (ap (λ (k : Visited). number_of (numbered k)) (refused n rows exits a l o (endless u v m)).0))
-      go (short u v m s) = absurd (y (ap (λ (k : Visited). number_of (numbered k)) (refused n rows exits a l o (short u v m s)).0))
+          given_by (refused n rows exits a l o (wrong u v)) (run_refuses n rows exits a l.run Table (answer_wrong n rows exits a l.run u v))
+      go (endless u v m) = absurd (x (ap (λ (k : Result Visited refusals.Refusal). number_of (numbered k)) (refused n rows exits a l o (endless u v m)).0))
+      go (short u v m s) = absurd (y (ap (λ (k : Result Visited refusals.Refusal). number_of (numbered k)) (refused n rows exits a l o (short u v m s)).0))
       go (right u v m s) =
           given_by (finished n rows exits a l o (right u v m s)) (run_finishes n rows exits a l.run (answer_right n rows exits a l.run u v) refl refl)
 
   -- 15 exactly where the edition is unknown, else 10 exactly where the table is not valid in it, else 16 exactly where the limit is the
   -- largest, else 4 exactly where one of the two slices is too short (rule 12.11), and then what is lent is as it was (rule 12.1)
-  pub record Refusal (r : Visited) (l' : Lends) : Type 0 where
-    pub edition : unknown_edition a.edition ≡ true → (r ≡ Refused 15) × (l' ≡ l)
-    pub table : unknown_edition a.edition ≡ false → valid_of (edition_of a.edition) n rows exits ≡ false → (r ≡ Refused 10) × (l' ≡ l)
+  pub record Refusal (r : Result Visited refusals.Refusal) (l' : Lends) : Type 0 where
+    pub edition : unknown_edition a.edition ≡ true → (r ≡ Err Edition) × (l' ≡ l)
+    pub table : unknown_edition a.edition ≡ false → valid_of (edition_of a.edition) n rows exits ≡ false → (r ≡ Err Table) × (l' ≡ l)
     pub limit : unknown_edition a.edition ≡ false → valid_of (edition_of a.edition) n rows exits ≡ true → eqb a.limit uncountable ≡ true
-        → (r ≡ Refused 16) × (l' ≡ l)
+        → (r ≡ Err Limit) × (l' ≡ l)
     pub room : unknown_edition a.edition ≡ false → valid_of (edition_of a.edition) n rows exits ≡ true → eqb a.limit uncountable ≡ false
-        → too_short n l ≡ true → (r ≡ Refused 4) × (l' ≡ l)
+        → too_short n l ≡ true → (r ≡ Err Room) × (l' ≡ l)
     pub none : unknown_edition a.edition ≡ false → valid_of (edition_of a.edition) n rows exits ≡ true → eqb a.limit uncountable ≡ false
         → too_short n l ≡ false → number_of (numbered r) ≡ 0
 
-  pub visits_refusal : {r : Visited} {l' : Lends} → Outcome n rows exits a l r l' → Refusal r l'
+  pub visits_refusal : {r : Result Visited refusals.Refusal} {l' : Lends} → Outcome n rows exits a l r l' → Refusal r l'
   unfolding numbered
   visits_refusal o = record {
     edition = λ u. refused n rows exits a l o (unknown u);
     table = λ u v. refused n rows exits a l o (wrong u v);
     limit = λ u v m. refused n rows exits a l o (endless u v m);
     room = λ u v m s. refused n rows exits a l o (short u v m s);
-    none = λ u v m s. ap (λ (k : Visited). number_of (numbered k)) (finished n rows exits a l o (right u v m s)).0;
+    none = λ u v m s. ap (λ (k : Result Visited refusals.Refusal). number_of (numbered k)) (finished n rows exits a l o (right u v m s)).0;
   }
 
   -- an answer whose number is 0 is finished
-  pub visits_finished : {r : Visited} {l' : Lends} → Outcome n rows exits a l r l' → 0 ≡ number_of (numbered r) → (e : Ended) × (unvisited : ℕ) × (r ≡ Finished e unvisited)
+  pub visits_finished : {r : Result Visited refusals.Refusal} {l' : Lends} → Outcome n rows exits a l r l' → 0 ≡ number_of (numbered r) → (v : Visited) × (r ≡ Ok v)
   unfolding numbered
   visits_finished {r} {l'} o h = let t = test_call n rows exits a l in go t.0 t.1
     where
-      go : (k : ℕ) → Tested n rows exits a l k → (e : Ended) × (unvisited : ℕ) × (r ≡ Finished e unvisited)
-      go zero t = (ended_of (end n rows exits a l), missed n rows exits a l (regions_of start o.history.exits), (finished n rows exits a l o t).0)
-      go (suc k) t =
-          let z : 0 ≡ suc k = h ∙ ap (λ (x : Visited). number_of (numbered x)) (refused n rows exits a l o t).0 in
-          absurd (omega arith)
+      go : (k : Option refusals.Refusal) → Tested n rows exits a l k → (v : Visited) × (r ≡ Ok v)
+      go None t = (record { ended = ended_of (end n rows exits a l); unvisited = missed n rows exits a l (regions_of start o.history.exits) }, (finished n rows exits a l o t).0)
+      go (Some k) t =
+          absurd (number_some k (sym (h ∙ ap (λ (x : Result Visited refusals.Refusal). number_of (numbered x)) (refused n rows exits a l o t).0)))
 
-  module _ {e : Ended} {unvisited : ℕ} {l' : Lends} (o : Outcome n rows exits a l (Finished e unvisited) l') where
+  module _ {v : Visited} {l' : Lends} (o : Outcome n rows exits a l (Ok v) l') where
     -- the regions entered, in their order
     abbrev entered : List ℕ
     entered = regions_of start o.history.exits
 
     -- the call was not refused
-    pub not_refused : Tested n rows exits a l 0
+    pub not_refused : Tested n rows exits a l None
     not_refused = let t = test_call n rows exits a l in go t.0 t.1
       where
-        go : (k : ℕ) → Tested n rows exits a l k → Tested n rows exits a l 0
-        go zero t = t
-        go (suc k) t = let z = (refused n rows exits a l o t).0 in clash cc
+        go : (k : Option refusals.Refusal) → Tested n rows exits a l k → Tested n rows exits a l None
+        go None t = t
+        go (Some k) t = let z = (refused n rows exits a l o t).0 in clash cc
 
     held : l'.visits ≡ lent (counts n entered) l.visits
     held = ap (λ (x : Lends). x.visits) (finished n rows exits a l o not_refused).1
@@ -152,15 +154,15 @@ module _ (n : ℕ) (rows exits : List ℕ) (a : Asks) (l : Lends) where
           ∙ lent_past (list_of n rows (λ r. count r entered)) l.unvisited 0 i (omega (arith, list_length n rows (λ r. count r entered))),
     )
 
-    pub visits_sum : sum (take n l'.visits) ≡ e.at.steps + 1
+    pub visits_sum : sum (take n l'.visits) ≡ v.ended.at.steps + 1
     unfolding lent
     visits_sum =
-        let steps : e.at.steps ≡ length o.history.exits = ap (λ (x : Ended). x.at.steps) (o.ends e unvisited refl) ∙ (omega (arith, o.history.counted)) in
+        let steps : v.ended.at.steps ≡ length o.history.exits = ap (λ (x : Ended). x.at.steps) (o.ends v refl) ∙ (omega (arith, o.history.counted)) in
         let below = entered_below (job_of rows exits (given_of a) l.run) (good not_refused) o.history.passes (good not_refused).some (record { dp = omega arith; cc = omega arith }) in
         ap (λ (x : List ℕ). sum (take n x)) held
         ∙ ap sum (take_at (counts n entered) (drop (length (counts n entered)) l.visits) n (counts_length n entered))
         ∙ counts_sum below
         ∙ (omega (arith, steps, length-map o.history.exits target_of))
       where
-        good : Tested n rows exits a l 0 → Good n rows exits
+        good : Tested n rows exits a l None → Good n rows exits
         good (right u v m s) = good_of (edition_of a.edition) n rows exits v

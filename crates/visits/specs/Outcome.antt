@@ -1,18 +1,18 @@
 -- What a call of a run that is counted answers and leaves in the lent slices (rules 12.11, 17.1 to 17.4). Assumes nothing.
-use Rattle.std.specs.Prelude.{◌≡◌, Bool, ◌||◌, List, [], ◌∷◌, ◌++◌, ℕ, ◌+◌, ◌-◌, ◌^◌, eqb, ltb, length, ℤ}
+use Rattle.std.specs.Prelude.{◌≡◌, Bool, ◌||◌, List, [], ◌∷◌, ◌++◌, ℕ, ◌+◌, ◌-◌, ◌^◌, eqb, ltb, length, replicate, ℤ, Result, Ok, Err}
 use Rattle.base.specs.Counting.{count, counts}
 use Rattle.base.specs.Lent.{lent}
 use Rattle.base.specs.Numbers.{Numbers, numbers, Row, row, first, unless_refused}
+use Rattle.base.specs.Refusal.{answered}
+use Rattle.base.specs.declared.refusal.Refusal.{Refusal}
 use Rattle.machine.specs.Machine.{Asks, given_of}
 use Rattle.machine.specs.Place.{start, End}
 use Rattle.machine.specs.Held as held
 use Rattle.machine.specs.Held.{Slices}
 use Rattle.interpreter.specs.declared.Ended.{Ended}
-use Rattle.interpreter.specs.declared.Ran.{Ran}
 use Rattle.interpreter.specs.History.{History, regions_of}
 use Rattle.interpreter.specs.Outcome.{result_cells, result_of, ended_of, slices_of, refused_in, refusals_in, job_of, end_of}
 use Rattle.visits.specs.declared.Visited.{Visited}
-use Rattle.visits.specs.declared.Visited.TheVariants.{Refused, Finished}
 use Rattle.visits.specs.Visits.{unvisited_of, list_of}
 
 -- what a call is lent: a run's slices, a cell a region for the counts, and the list's
@@ -43,14 +43,13 @@ refusals n rows exits a l =
     ++ (row (eqb a.limit uncountable) (refused_in visit_cells 16) ∷ row (too_short n l) (refused_in visit_cells 4) ∷ [])
 
 -- the answer in numbers: the run's result, then the list's count
-unfoldable pub numbered : Visited → Numbers
-numbered (Refused number) = refused_in visit_cells number
-numbered (Finished e unvisited) = numbers 0 (result_of e ++ (unvisited ∷ []))
+unfoldable pub numbered : Result Visited Refusal → Numbers
+numbered = answered (λ v. result_of v.ended ++ (v.unvisited ∷ [])) (λ r. replicate visit_cells 0)
 
 -- the same answer without the list's count, as `run` gives it
-abbrev pub ran_of : Visited → Ran
-ran_of (Refused number) = Ran.Refused number
-ran_of (Finished e unvisited) = Ran.Finished e
+abbrev pub ran_of : Result Visited Refusal → Result Ended Refusal
+ran_of (Ok v) = Ok v.ended
+ran_of (Err r) = Err r
 
 module _ (n : ℕ) (rows exits : List ℕ) (a : Asks) (l : Lends) where
   -- where the run ends, which is `run`'s
@@ -81,8 +80,8 @@ module _ (n : ℕ) (rows exits : List ℕ) (a : Asks) (l : Lends) where
 
   -- what a call answers and leaves, by the history of the run. The numbers do not tell whether input is awaited, so the place where
   -- a finished run ended is settled besides.
-  pub record Outcome (r : Visited) (l' : Lends) : Type 0 where
+  pub record Outcome (r : Result Visited Refusal) (l' : Lends) : Type 0 where
     pub history : Entering
     pub answers : numbered r ≡ answer (regions_of start history.exits)
-    pub ends : (e : Ended) (unvisited : ℕ) → r ≡ Finished e unvisited → e ≡ ended_of end
+    pub ends : (v : Visited) → r ≡ Ok v → v.ended ≡ ended_of end
     pub leaves : l' ≡ left_of (regions_of start history.exits)

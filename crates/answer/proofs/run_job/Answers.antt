@@ -1,6 +1,8 @@
 -- `answer::run_job` meets its contract: what the run of the picture answers is printed.
 -- Assumes nothing.
 use mathlib.Core.Path.{◌≡◌, subst}
+use Rattle.std.specs.Prelude.{Result}
+use Rattle.base.specs.declared.refusal.Refusal.{Refusal}
 use Rattle.piet.specs.declared.run_picture.Pictured.{Pictured}
 use Rattle.piet.specs.RunPicture as running
 use Rattle.piet.specs.RunPicture.{Lends, lends}
@@ -27,11 +29,11 @@ put_ended-requires c =
       kinds = c.run_parts-pictured.auto.kinds;
       values = c.run_parts-pictured.auto.values;
     } in
-    let answered : (r : Pictured) → c.run_parts-pictured.result ≡ r → running.Outcome (asked_of content) fresh r lent_after = λ r e. subst (λ (x : Pictured). running.Outcome (asked_of content) fresh x lent_after) e c.run_parts-pictured.ensures in
-    printable_end content c.requires.1.said fresh_sized sized (answered _ c.in-Finished.is) _ c.requires.0
+    let answered : (r : Result Pictured Refusal) → c.run_parts-pictured.result ≡ r → running.Outcome (asked_of content) fresh r lent_after = λ r e. subst (λ (x : Result Pictured Refusal). running.Outcome (asked_of content) fresh x lent_after) e c.run_parts-pictured.ensures in
+    printable_end content c.requires.1.said fresh_sized sized (answered _ c.in-Ok.is) _ c.requires.0
 
-pub returns-in-Finished : goal.returns-in-Finished
-returns-in-Finished c =
+pub returns-in-Ok : goal.returns-in-Ok
+returns-in-Ok c =
     let content : Content = content_of c.args.job.now c.args.p in
     let lent_after : Lends =
     let z = c.run_parts-pictured.new in
@@ -46,14 +48,14 @@ returns-in-Finished c =
       kinds = c.run_parts-pictured.auto.kinds;
       values = c.run_parts-pictured.auto.values;
     } in
-    let answered : (r : Pictured) → c.run_parts-pictured.result ≡ r → running.Outcome (asked_of content) fresh r lent_after = λ r e. subst (λ (x : Pictured). running.Outcome (asked_of content) fresh x lent_after) e c.run_parts-pictured.ensures in
-    prints_end content c.requires.1.said fresh_sized sized (answered _ c.in-Finished.is) c.put_ended.ensures
+    let answered : (r : Result Pictured Refusal) → c.run_parts-pictured.result ≡ r → running.Outcome (asked_of content) fresh r lent_after = λ r e. subst (λ (x : Result Pictured Refusal). running.Outcome (asked_of content) fresh x lent_after) e c.run_parts-pictured.ensures in
+    prints_end content c.requires.1.said fresh_sized sized (answered _ c.in-Ok.is) c.put_ended.ensures
 
-pub returns-in-Refused : goal.returns-in-Refused
-returns-in-Refused c =
+pub returns-in-Err : goal.returns-in-Err
+returns-in-Err c =
     let content : Content = content_of c.args.job.now c.args.p in
     let lent_after : Lends =
     let z = c.run_parts-pictured.new in
     lends z.colours z.map z.rows z.exits z.work z.stack z.kinds z.values in
-    let answered : (r : Pictured) → c.run_parts-pictured.result ≡ r → running.Outcome (asked_of content) fresh r lent_after = λ r e. subst (λ (x : Pictured). running.Outcome (asked_of content) fresh x lent_after) e c.run_parts-pictured.ensures in
-    prints_refusal content c.requires.1.said {l' = lent_after} fresh_sized (answered _ c.in-Refused.is) c.put_refusal.ensures
+    let answered : (r : Result Pictured Refusal) → c.run_parts-pictured.result ≡ r → running.Outcome (asked_of content) fresh r lent_after = λ r e. subst (λ (x : Result Pictured Refusal). running.Outcome (asked_of content) fresh x lent_after) e c.run_parts-pictured.ensures in
+    prints_refusal content c.requires.1.said {l' = lent_after} fresh_sized (answered _ c.in-Err.is) (rw c.number.ensures at c.put_refusal.ensures)

@@ -8,8 +8,10 @@ use Rattle.piet_c.proofs.piet_build.Goals as goal
 pub returns-then-answer-lt2 : goal.returns-then-answer-lt2
 returns-then-answer-lt2 c = short c.if-answer-lt2.true refl refl refl
 
-pub returns : goal.returns
-returns c =
-    let t = c.of_built-told.result in
-    told t.number (t.first ∷ t.second ∷ []) c.if-answer-lt2.false (c.build.result, refl, c.build.ensures) c.of_built-told.ensures
-    c.put_two.ensures
+pub returns-in-Ok : goal.returns-in-Ok
+returns-in-Ok c =
+    told 0 (c.in-Ok.regions ∷ 0 ∷ []) c.if-answer-lt2.false (c.build.result, refl, c.build.ensures) (rw c.in-Ok.is refl) c.put_two.ensures
+
+pub returns-in-Err : goal.returns-in-Err
+returns-in-Err c =
+    told _ _ c.if-answer-lt2.false (c.build.result, refl, c.build.ensures) (rw (c.in-Err.is, c.refuse_at.ensures.0) refl) c.refuse_at.ensures.1

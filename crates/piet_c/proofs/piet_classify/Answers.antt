@@ -8,10 +8,10 @@ use Rattle.piet_c.proofs.piet_classify.Goals as goal
 pub returns-then-answer-lt2 : goal.returns-then-answer-lt2
 returns-then-answer-lt2 c = short c.if-answer-lt2.true refl refl refl
 
-pub returns : goal.returns
-returns c =
-    let the-in-numbers = c.in_numbers-told in
-    let the-if1 = c.if-answer-lt2 in
-    let the-classify = c.classify in
-    let the-put-two = c.put_two in
-    told the-in-numbers.result.number (the-in-numbers.result.row ∷ the-in-numbers.result.column ∷ []) the-if1.false (the-classify.result, refl, the-classify.ensures) the-in-numbers.ensures the-put-two.ensures
+pub returns-in-Ok : goal.returns-in-Ok
+returns-in-Ok c =
+    told 0 (0 ∷ 0 ∷ []) c.if-answer-lt2.false (c.classify.result, refl, c.classify.ensures) (rw c.in-Ok.is refl) c.put_two.ensures
+
+pub returns-in-Err : goal.returns-in-Err
+returns-in-Err c =
+    told _ _ c.if-answer-lt2.false (c.classify.result, refl, c.classify.ensures) (rw (c.in-Err.is, c.refuse_at.ensures.0) refl) c.refuse_at.ensures.1

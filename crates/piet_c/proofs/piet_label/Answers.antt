@@ -8,10 +8,10 @@ use Rattle.piet_c.proofs.piet_label.Goals as goal
 pub returns-then-answer-lt1 : goal.returns-then-answer-lt1
 returns-then-answer-lt1 c = short c.if-answer-lt1.true refl refl refl
 
-pub returns : goal.returns
-returns c =
-    let the-of-labelled = c.of_labelled-told in
-    let the-if1 = c.if-answer-lt1 in
-    let the-label = c.label in
-    let the-put-one = c.put_one in
-    told the-of-labelled.result.number (the-of-labelled.result.value ∷ []) the-if1.false (the-label.result, refl, the-label.ensures) the-of-labelled.ensures the-put-one.ensures
+pub returns-in-Ok : goal.returns-in-Ok
+returns-in-Ok c =
+    told 0 (c.in-Ok.length ∷ []) c.if-answer-lt1.false (c.label.result, refl, c.label.ensures) (rw c.in-Ok.is refl) c.put_one.ensures
+
+pub returns-in-Err : goal.returns-in-Err
+returns-in-Err c =
+    told _ _ c.if-answer-lt1.false (c.label.result, refl, c.label.ensures) (rw (c.in-Err.is, c.refuse.ensures.0) refl) c.refuse.ensures.1

@@ -1,6 +1,8 @@
 -- `shade::put_visits` meets its contract: what the counted run answers is printed.
 -- Assumes nothing.
 use mathlib.Core.Path.{◌≡◌, subst}
+use Rattle.std.specs.Prelude.{Result}
+use Rattle.base.specs.declared.refusal.Refusal.{Refusal}
 use Rattle.visits.specs.declared.Visited.{Visited}
 use Rattle.visits.specs.Outcome as visiting
 use Rattle.job.specs.Encoding.{Content}
@@ -14,22 +16,22 @@ put_picture-requires c =
     let h = c.requires in
     rw c.run_visits-visited.auto.visits (printable h.2 _ h.0)
 
-pub returns-in-Finished : goal.returns-in-Finished
-returns-in-Finished c =
+pub returns-in-Ok : goal.returns-in-Ok
+returns-in-Ok c =
     let content : Content = content_of c.args.job.now c.args.p in
     let lent_after : visiting.Lends =
     let z = c.run_visits-visited.new in
     visiting.lends z.stack z.kinds z.values z.visits z.unvisited in
-    let answered : (r : Visited) → c.run_visits-visited.result ≡ r → visiting.Outcome c.args.regions c.args.rows.now c.args.exits.now (asked_of content).asks fresh r lent_after = λ r e. subst (λ (x : Visited). visiting.Outcome c.args.regions c.args.rows.now c.args.exits.now (asked_of content).asks fresh x lent_after) e
+    let answered : (r : Result Visited Refusal) → c.run_visits-visited.result ≡ r → visiting.Outcome c.args.regions c.args.rows.now c.args.exits.now (asked_of content).asks fresh r lent_after = λ r e. subst (λ (x : Result Visited Refusal). visiting.Outcome c.args.regions c.args.rows.now c.args.exits.now (asked_of content).asks fresh x lent_after) e
     c.run_visits-visited.ensures.outcome in
-    shows_counts c.requires.2 (answered _ c.in-Finished.is) c.put_picture.ensures
+    shows_counts c.requires.2 (answered _ c.in-Ok.is) c.put_picture.ensures
 
-pub returns-in-Refused : goal.returns-in-Refused
-returns-in-Refused c =
+pub returns-in-Err : goal.returns-in-Err
+returns-in-Err c =
     let content : Content = content_of c.args.job.now c.args.p in
     let lent_after : visiting.Lends =
     let z = c.run_visits-visited.new in
     visiting.lends z.stack z.kinds z.values z.visits z.unvisited in
-    let answered : (r : Visited) → c.run_visits-visited.result ≡ r → visiting.Outcome c.args.regions c.args.rows.now c.args.exits.now (asked_of content).asks fresh r lent_after = λ r e. subst (λ (x : Visited). visiting.Outcome c.args.regions c.args.rows.now c.args.exits.now (asked_of content).asks fresh x lent_after) e
+    let answered : (r : Result Visited Refusal) → c.run_visits-visited.result ≡ r → visiting.Outcome c.args.regions c.args.rows.now c.args.exits.now (asked_of content).asks fresh r lent_after = λ r e. subst (λ (x : Result Visited Refusal). visiting.Outcome c.args.regions c.args.rows.now c.args.exits.now (asked_of content).asks fresh x lent_after) e
     c.run_visits-visited.ensures.outcome in
-    shows_refusal c.requires.2 (answered _ c.in-Refused.is) c.put_refusal.ensures
+    shows_refusal c.requires.2 (answered _ c.in-Err.is) (rw c.number.ensures at c.put_refusal.ensures)

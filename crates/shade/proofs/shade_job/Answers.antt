@@ -1,6 +1,8 @@
 -- `shade::shade_job` meets its contract: a refusal is printed, and else what was counted over the table that was built.
 -- Assumes nothing.
-use mathlib.Core.Path.{◌≡◌, refl, sym, subst}
+use mathlib.Core.Path.{◌≡◌, sym, subst}
+use Rattle.std.specs.Prelude.{Result}
+use Rattle.base.specs.declared.refusal.Refusal.{Refusal}
 use Rattle.piet.specs.declared.run_picture.Pictured.{Pictured}
 use Rattle.piet.specs.RunPicture as running
 use Rattle.piet.specs.RunPicture.{Lends, lends}
@@ -24,30 +26,30 @@ put_visits-requires c =
     let lent_after : Lends =
     let z = c.run_parts-pictured.new in
     lends z.colours z.map z.rows z.exits z.work z.stack z.kinds z.values in
-    let answered : (r : Pictured) → c.run_parts-pictured.result ≡ r → running.Outcome (asked_of (still_said content)) fresh r lent_after = λ r e. subst (λ (x : Pictured). running.Outcome (asked_of (still_said content)) fresh x lent_after) e
+    let answered : (r : Result Pictured Refusal) → c.run_parts-pictured.result ≡ r → running.Outcome (asked_of (still_said content)) fresh r lent_after = λ r e. subst (λ (x : Result Pictured Refusal). running.Outcome (asked_of (still_said content)) fresh x lent_after) e
     (subst (λ (q : Parts). running.Outcome (asked_of (content_of c.args.job.now q)) fresh c.run_parts-pictured.result lent_after) c.still.ensures c.run_parts-pictured.ensures) in
-    let table : JobTable content c.in-Finished.regions lent_after.map lent_after.rows lent_after.exits = tabled content fresh_sized _ refl (answered _ c.in-Finished.is) in
+    let table : JobTable content c.in-Ok.pictured.regions lent_after.map lent_after.rows lent_after.exits = tabled content fresh_sized (answered _ c.in-Ok.is) in
     let h = c.requires in
     (h.0, h.1, table)
 
-pub returns-in-Finished : goal.returns-in-Finished
-returns-in-Finished c =
+pub returns-in-Ok : goal.returns-in-Ok
+returns-in-Ok c =
     let content : Content = content_of c.args.job.now c.args.p in
     let lent_after : Lends =
     let z = c.run_parts-pictured.new in
     lends z.colours z.map z.rows z.exits z.work z.stack z.kinds z.values in
-    let answered : (r : Pictured) → c.run_parts-pictured.result ≡ r → running.Outcome (asked_of (still_said content)) fresh r lent_after = λ r e. subst (λ (x : Pictured). running.Outcome (asked_of (still_said content)) fresh x lent_after) e
+    let answered : (r : Result Pictured Refusal) → c.run_parts-pictured.result ≡ r → running.Outcome (asked_of (still_said content)) fresh r lent_after = λ r e. subst (λ (x : Result Pictured Refusal). running.Outcome (asked_of (still_said content)) fresh x lent_after) e
     (subst (λ (q : Parts). running.Outcome (asked_of (content_of c.args.job.now q)) fresh c.run_parts-pictured.result lent_after) c.still.ensures c.run_parts-pictured.ensures) in
-    let table : JobTable content c.in-Finished.regions lent_after.map lent_after.rows lent_after.exits = tabled content fresh_sized _ refl (answered _ c.in-Finished.is) in
+    let table : JobTable content c.in-Ok.pictured.regions lent_after.map lent_after.rows lent_after.exits = tabled content fresh_sized (answered _ c.in-Ok.is) in
     let shown = c.put_visits.ensures in
     prints (ran content c.requires.1.said table.none shown.shaded) shown.put
 
-pub returns-in-Refused : goal.returns-in-Refused
-returns-in-Refused c =
+pub returns-in-Err : goal.returns-in-Err
+returns-in-Err c =
     let content : Content = content_of c.args.job.now c.args.p in
     let lent_after : Lends =
     let z = c.run_parts-pictured.new in
     lends z.colours z.map z.rows z.exits z.work z.stack z.kinds z.values in
-    let answered : (r : Pictured) → c.run_parts-pictured.result ≡ r → running.Outcome (asked_of (still_said content)) fresh r lent_after = λ r e. subst (λ (x : Pictured). running.Outcome (asked_of (still_said content)) fresh x lent_after) e
+    let answered : (r : Result Pictured Refusal) → c.run_parts-pictured.result ≡ r → running.Outcome (asked_of (still_said content)) fresh r lent_after = λ r e. subst (λ (x : Result Pictured Refusal). running.Outcome (asked_of (still_said content)) fresh x lent_after) e
     (subst (λ (q : Parts). running.Outcome (asked_of (content_of c.args.job.now q)) fresh c.run_parts-pictured.result lent_after) c.still.ensures c.run_parts-pictured.ensures) in
-    prints_still content c.requires.1.said {l' = lent_after} fresh_sized (answered _ c.in-Refused.is) c.put_refusal.ensures
+    prints_still content c.requires.1.said {l' = lent_after} fresh_sized (answered _ c.in-Err.is) (rw c.number.ensures at c.put_refusal.ensures)

@@ -1,6 +1,8 @@
 -- `trace::trace_job` meets its contract: a refusal is printed, and else the trace of the run that was made.
 -- Assumes nothing.
 use mathlib.Core.Path.{◌≡◌, subst}
+use Rattle.std.specs.Prelude.{Result}
+use Rattle.base.specs.declared.refusal.Refusal.{Refusal}
 use Rattle.piet.specs.declared.run_picture.Pictured.{Pictured}
 use Rattle.piet.specs.RunPicture as running
 use Rattle.piet.specs.RunPicture.{Lends, lends}
@@ -29,14 +31,14 @@ trace_parts-requires c =
       kinds = search rules;
       values = search rules;
     } in
-    let answered : (r : Pictured) → c.run_parts-pictured.result ≡ r → running.Outcome (asked_of content) fresh r lent_after = λ r e. subst (λ (x : Pictured). running.Outcome (asked_of content) fresh x lent_after) e c.run_parts-pictured.ensures in
+    let answered : (r : Result Pictured Refusal) → c.run_parts-pictured.result ≡ r → running.Outcome (asked_of content) fresh r lent_after = λ r e. subst (λ (x : Result Pictured Refusal). running.Outcome (asked_of content) fresh x lent_after) e c.run_parts-pictured.ensures in
     record {
       reads = c.requires.1;
-      endable = endable content fresh_sized sized (answered _ c.in-Finished.is) _ c.requires.0;
+      endable = endable content fresh_sized sized (answered _ c.in-Ok.is) _ c.requires.0;
     }
 
-pub returns-in-Finished : goal.returns-in-Finished
-returns-in-Finished c =
+pub returns-in-Ok : goal.returns-in-Ok
+returns-in-Ok c =
     let content : Content = content_of c.args.job.now c.args.p in
     let lent_after : Lends =
     let z = c.run_parts-pictured.new in
@@ -51,14 +53,14 @@ returns-in-Finished c =
       kinds = search rules;
       values = search rules;
     } in
-    let answered : (r : Pictured) → c.run_parts-pictured.result ≡ r → running.Outcome (asked_of content) fresh r lent_after = λ r e. subst (λ (x : Pictured). running.Outcome (asked_of content) fresh x lent_after) e c.run_parts-pictured.ensures in
-    prints_trace content fresh_sized sized (answered _ c.in-Finished.is) c.requires.1.said c.trace_parts.ensures
+    let answered : (r : Result Pictured Refusal) → c.run_parts-pictured.result ≡ r → running.Outcome (asked_of content) fresh r lent_after = λ r e. subst (λ (x : Result Pictured Refusal). running.Outcome (asked_of content) fresh x lent_after) e c.run_parts-pictured.ensures in
+    prints_trace content fresh_sized sized (answered _ c.in-Ok.is) c.requires.1.said c.trace_parts.ensures
 
-pub returns-in-Refused : goal.returns-in-Refused
-returns-in-Refused c =
+pub returns-in-Err : goal.returns-in-Err
+returns-in-Err c =
     let content : Content = content_of c.args.job.now c.args.p in
     let lent_after : Lends =
     let z = c.run_parts-pictured.new in
     lends z.colours z.map z.rows z.exits z.work z.stack z.kinds z.values in
-    let answered : (r : Pictured) → c.run_parts-pictured.result ≡ r → running.Outcome (asked_of content) fresh r lent_after = λ r e. subst (λ (x : Pictured). running.Outcome (asked_of content) fresh x lent_after) e c.run_parts-pictured.ensures in
-    prints_refusal content c.requires.1.said {l' = lent_after} fresh_sized (answered _ c.in-Refused.is) c.put_refusal.ensures
+    let answered : (r : Result Pictured Refusal) → c.run_parts-pictured.result ≡ r → running.Outcome (asked_of content) fresh r lent_after = λ r e. subst (λ (x : Result Pictured Refusal). running.Outcome (asked_of content) fresh x lent_after) e c.run_parts-pictured.ensures in
+    prints_refusal content c.requires.1.said {l' = lent_after} fresh_sized (answered _ c.in-Err.is) (rw c.number.ensures at c.put_refusal.ensures)

@@ -9,7 +9,9 @@ use borrow.Author.Tests.{eq-eqb, ne_eqb, lt-ltb, le-ltb}
 use lib.Dec.{eqb}
 use lib.ListN.{length, get_or, replicate}
 use Rattle.base.specs.declared.edition.Edition.{Edition}
-use Rattle.base.specs.Edition.{edition_of, unknown_edition}
+use Rattle.base.specs.Edition.{edition_of}
+use Rattle.base.proofs.EditionLaws.{edition_known, edition_refused}
+use Rattle.std.proofs.lemmas.Result.{err_from_is_err_and}
 use Rattle.base.specs.Counting.{count}
 use Rattle.base.specs.Lent.{lent}
 use Rattle.text.proofs.Judging.{judged_start}
@@ -30,25 +32,23 @@ use Rattle.visits.proofs.ListingLaws.{list_same}
 use Rattle.visits.proofs.Answering.{unknown, wrong, endless, short, right, refuses, finishes}
 use Rattle.visits.proofs.run_visits.Goals as goal
 
-pub returns-then-unknown_edition : goal.returns-then-unknown_edition
-returns-then-unknown_edition c =
+pub returns-in_err-known : goal.returns-in_err-known
+returns-in_err-known c =
     let what : Asks = asks c.args.edition c.args.limit c.args.abstract_mode c.args.input.now in
     let held : Lends = lends c.args.stack.now c.args.kinds.now c.args.values.now c.args.visits.now c.args.unvisited.now in
     let a = c.args in
-    record {
-      outcome = refuses a.n a.rows.now a.exits.now what held (unknown (sym c.unknown_edition.ensures ∙ c.if-unknown_edition.true));
-      resumable = tt;
-    }
+    let p = err_from_is_err_and c.from_residual.result c.from_residual.ensures.1 in
+    let k = edition_refused a.edition c.in_err-known.ensures in
+    rw (p.1, p.2, k.1) (record { outcome = refuses a.n a.rows.now a.exits.now what held (unknown k.0); resumable = tt })
 
-pub returns-then-not-ok : goal.returns-then-not-ok
-returns-then-not-ok c =
+pub returns-then-not-valid : goal.returns-then-not-valid
+returns-then-not-valid c =
     let what : Asks = asks c.args.edition c.args.limit c.args.abstract_mode c.args.input.now in
     let held : Lends = lends c.args.stack.now c.args.kinds.now c.args.values.now c.args.visits.now c.args.unvisited.now in
-    let named : unknown_edition c.args.edition ≡ false = sym c.unknown_edition.ensures ∙ c.if-unknown_edition.false in
-    let judged : let a = c.args in c.valid-ok.result ≡ valid_of (edition_of a.edition) a.n a.rows.now a.exits.now = let a = c.args in subst (λ (e : Edition). c.valid-ok.result ≡ valid_of e a.n a.rows.now a.exits.now) c.edition_of-known.ensures c.valid-ok.ensures in
     let a = c.args in
-    let v = c.valid-ok in record {
-      outcome = refuses a.n a.rows.now a.exits.now what held (wrong named (sym judged ∙ c.if-not-ok.true));
+    let k = edition_known a.edition c.in_ok-known.ensures in
+    record {
+      outcome = refuses a.n a.rows.now a.exits.now what held (wrong k.0 (rw k.1 at (sym c.valid.ensures ∙ c.if-not-valid.true)));
       resumable = tt;
     }
 
@@ -56,11 +56,10 @@ pub returns-then-limit-eq-UNCOUNTABLE : goal.returns-then-limit-eq-UNCOUNTABLE
 returns-then-limit-eq-UNCOUNTABLE c =
     let what : Asks = asks c.args.edition c.args.limit c.args.abstract_mode c.args.input.now in
     let held : Lends = lends c.args.stack.now c.args.kinds.now c.args.values.now c.args.visits.now c.args.unvisited.now in
-    let named : unknown_edition c.args.edition ≡ false = sym c.unknown_edition.ensures ∙ c.if-unknown_edition.false in
-    let judged : let a = c.args in c.valid-ok.result ≡ valid_of (edition_of a.edition) a.n a.rows.now a.exits.now = let a = c.args in subst (λ (e : Edition). c.valid-ok.result ≡ valid_of e a.n a.rows.now a.exits.now) c.edition_of-known.ensures c.valid-ok.ensures in
-    let valid : let a = c.args in valid_of (edition_of a.edition) a.n a.rows.now a.exits.now ≡ true = sym judged ∙ c.if-not-ok.false in
+    let k = edition_known c.args.edition c.in_ok-known.ensures in
+    let valid : let a = c.args in valid_of (edition_of a.edition) a.n a.rows.now a.exits.now ≡ true = rw k.1 at (sym c.valid.ensures ∙ c.if-not-valid.false) in
     let a = c.args in record {
-      outcome = refuses a.n a.rows.now a.exits.now what held (endless named valid (eq-eqb a.limit uncountable c.if-limit-eq-UNCOUNTABLE.true));
+      outcome = refuses a.n a.rows.now a.exits.now what held (endless k.0 valid (eq-eqb a.limit uncountable c.if-limit-eq-UNCOUNTABLE.true));
       resumable = tt;
     }
 
@@ -68,12 +67,11 @@ pub returns-then-visits-n : goal.returns-then-visits-n
 returns-then-visits-n c =
     let what : Asks = asks c.args.edition c.args.limit c.args.abstract_mode c.args.input.now in
     let held : Lends = lends c.args.stack.now c.args.kinds.now c.args.values.now c.args.visits.now c.args.unvisited.now in
-    let named : unknown_edition c.args.edition ≡ false = sym c.unknown_edition.ensures ∙ c.if-unknown_edition.false in
-    let judged : let a = c.args in c.valid-ok.result ≡ valid_of (edition_of a.edition) a.n a.rows.now a.exits.now = let a = c.args in subst (λ (e : Edition). c.valid-ok.result ≡ valid_of e a.n a.rows.now a.exits.now) c.edition_of-known.ensures c.valid-ok.ensures in
-    let valid : let a = c.args in valid_of (edition_of a.edition) a.n a.rows.now a.exits.now ≡ true = sym judged ∙ c.if-not-ok.false in
+    let k = edition_known c.args.edition c.in_ok-known.ensures in
+    let valid : let a = c.args in valid_of (edition_of a.edition) a.n a.rows.now a.exits.now ≡ true = rw k.1 at (sym c.valid.ensures ∙ c.if-not-valid.false) in
     let limited : eqb c.args.limit uncountable ≡ false = ne_eqb c.args.limit uncountable c.if-limit-eq-UNCOUNTABLE.false in
     let a = c.args in record {
-      outcome = refuses a.n a.rows.now a.exits.now what held (short named valid limited (rw (lt-ltb (length held.visits) a.n c.if-visits-n.true) refl));
+      outcome = refuses a.n a.rows.now a.exits.now what held (short k.0 valid limited (rw (lt-ltb (length held.visits) a.n c.if-visits-n.true) refl));
       resumable = tt;
     }
 
@@ -81,19 +79,18 @@ pub returns-then-unvisited-n : goal.returns-then-unvisited-n
 returns-then-unvisited-n c =
     let what : Asks = asks c.args.edition c.args.limit c.args.abstract_mode c.args.input.now in
     let held : Lends = lends c.args.stack.now c.args.kinds.now c.args.values.now c.args.visits.now c.args.unvisited.now in
-    let named : unknown_edition c.args.edition ≡ false = sym c.unknown_edition.ensures ∙ c.if-unknown_edition.false in
-    let judged : let a = c.args in c.valid-ok.result ≡ valid_of (edition_of a.edition) a.n a.rows.now a.exits.now = let a = c.args in subst (λ (e : Edition). c.valid-ok.result ≡ valid_of e a.n a.rows.now a.exits.now) c.edition_of-known.ensures c.valid-ok.ensures in
-    let valid : let a = c.args in valid_of (edition_of a.edition) a.n a.rows.now a.exits.now ≡ true = sym judged ∙ c.if-not-ok.false in
+    let k = edition_known c.args.edition c.in_ok-known.ensures in
+    let valid : let a = c.args in valid_of (edition_of a.edition) a.n a.rows.now a.exits.now ≡ true = rw k.1 at (sym c.valid.ensures ∙ c.if-not-valid.false) in
     let limited : eqb c.args.limit uncountable ≡ false = ne_eqb c.args.limit uncountable c.if-limit-eq-UNCOUNTABLE.false in
     let a = c.args in record {
-      outcome = refuses a.n a.rows.now a.exits.now what held (short named valid limited (rw (le-ltb (length held.visits) a.n c.if-visits-n.false, lt-ltb (length held.unvisited) a.n c.if-unvisited-n.true) refl));
+      outcome = refuses a.n a.rows.now a.exits.now what held (short k.0 valid limited (rw (le-ltb (length held.visits) a.n c.if-visits-n.false, lt-ltb (length held.unvisited) a.n c.if-unvisited-n.true) refl));
       resumable = tt;
     }
 
 pub count_visits-ended-requires : goal.count_visits-ended-requires
 count_visits-ended-requires c =
-    let judged : let a = c.args in c.valid-ok.result ≡ valid_of (edition_of a.edition) a.n a.rows.now a.exits.now = let a = c.args in subst (λ (e : Edition). c.valid-ok.result ≡ valid_of e a.n a.rows.now a.exits.now) c.edition_of-known.ensures c.valid-ok.ensures in
-    let valid : let a = c.args in valid_of (edition_of a.edition) a.n a.rows.now a.exits.now ≡ true = sym judged ∙ c.if-not-ok.false in
+    let k = edition_known c.args.edition c.in_ok-known.ensures in
+    let valid : let a = c.args in valid_of (edition_of a.edition) a.n a.rows.now a.exits.now ≡ true = rw k.1 at (sym c.valid.ensures ∙ c.if-not-valid.false) in
     let good : let a = c.args in Good a.n a.rows.now a.exits.now = let a = c.args in good_of (edition_of a.edition) a.n a.rows.now a.exits.now valid in
     record {
       good = good;
@@ -102,8 +99,8 @@ count_visits-ended-requires c =
 
 pub list_unvisited-missed-requires : goal.list_unvisited-missed-requires
 list_unvisited-missed-requires c =
-    let judged : let a = c.args in c.valid-ok.result ≡ valid_of (edition_of a.edition) a.n a.rows.now a.exits.now = let a = c.args in subst (λ (e : Edition). c.valid-ok.result ≡ valid_of e a.n a.rows.now a.exits.now) c.edition_of-known.ensures c.valid-ok.ensures in
-    let valid : let a = c.args in valid_of (edition_of a.edition) a.n a.rows.now a.exits.now ≡ true = sym judged ∙ c.if-not-ok.false in
+    let k = edition_known c.args.edition c.in_ok-known.ensures in
+    let valid : let a = c.args in valid_of (edition_of a.edition) a.n a.rows.now a.exits.now ≡ true = rw k.1 at (sym c.valid.ensures ∙ c.if-not-valid.false) in
     let good : let a = c.args in Good a.n a.rows.now a.exits.now = let a = c.args in good_of (edition_of a.edition) a.n a.rows.now a.exits.now valid in
     let g = good in
     record {
@@ -115,9 +112,8 @@ pub returns : goal.returns
 returns c =
     let what : Asks = asks c.args.edition c.args.limit c.args.abstract_mode c.args.input.now in
     let held : Lends = lends c.args.stack.now c.args.kinds.now c.args.values.now c.args.visits.now c.args.unvisited.now in
-    let named : unknown_edition c.args.edition ≡ false = sym c.unknown_edition.ensures ∙ c.if-unknown_edition.false in
-    let judged : let a = c.args in c.valid-ok.result ≡ valid_of (edition_of a.edition) a.n a.rows.now a.exits.now = let a = c.args in subst (λ (e : Edition). c.valid-ok.result ≡ valid_of e a.n a.rows.now a.exits.now) c.edition_of-known.ensures c.valid-ok.ensures in
-    let valid : let a = c.args in valid_of (edition_of a.edition) a.n a.rows.now a.exits.now ≡ true = sym judged ∙ c.if-not-ok.false in
+    let k = edition_known c.args.edition c.in_ok-known.ensures in
+    let valid : let a = c.args in valid_of (edition_of a.edition) a.n a.rows.now a.exits.now ≡ true = rw k.1 at (sym c.valid.ensures ∙ c.if-not-valid.false) in
     let limited : eqb c.args.limit uncountable ≡ false = ne_eqb c.args.limit uncountable c.if-limit-eq-UNCOUNTABLE.false in
     let roomy : too_short c.args.n held ≡ false =
     rw (le-ltb (length held.visits) c.args.n c.if-visits-n.false, le-ltb (length held.unvisited) c.args.n c.if-unvisited-n.false) refl in
@@ -134,10 +130,10 @@ returns c =
     let long : AsLong l' l = record { stack = r.auto.stack; kinds = r.auto.kinds; values = r.auto.values } in
     let g : Edition → Given = λ e. given (record { edition = e; limit = c.args.limit; abstract_mode = c.args.abstract_mode }) c.args.input.now in
     let ran = subst (λ (e : Edition). Started n rows exits (g e) l l' r.result × Counted n (job_of rows exits (g e) l) v v')
-    c.edition_of-known.ensures (r.ensures.started, r.ensures.counted) in
+    k.1 (r.ensures.started, r.ensures.counted) in
     let entered = regions_of place.start ran.1.history.exits in
     let same = list_same n rows (λ i. get_or v' i 0) (λ i. count i entered) (counts_held n entered v ran.1.cells) in
     let e = settled n (end_of rows exits (given_of what) l) l' l r.result long ran.0 in record {
-      outcome = finishes n rows exits what held (right named valid limited roomy) ran.1.history e.0 (u.ensures.counted ∙ ap length same) (λ i. record { run = e.1 i; visits = ran.1.cells i; unvisited = (u.ensures.cells ∙ ap (λ (w : List ℕ). lent (w ++ replicate (n - length w) 0) c.args.unvisited.now) same) i });
+      outcome = finishes n rows exits what held (right k.0 valid limited roomy) ran.1.history e.0 (u.ensures.counted ∙ ap length same) (λ i. record { run = e.1 i; visits = ran.1.cells i; unvisited = (u.ensures.cells ∙ ap (λ (w : List ℕ). lent (w ++ replicate (n - length w) 0) c.args.unvisited.now) same) i });
       resumable = (good, ran.0, reached_judged n rows exits (given_of what) l l' c.args.limit place.start r.result ran.0 (judged_start (edition_of c.args.edition) c.args.input.now));
     }

@@ -1,39 +1,50 @@
 -- `cfg::building::build` meets its contract: where nothing is refused, what the tests left is what the table needs; any other answer leaves the slices as they were.
 -- Assumes nothing.
 use lib.ListN.{length}
-use Rattle.cfg.specs.Build.{done}
+use mathlib.Core.Path.{sym, ◌∙◌}
+use Rattle.std.proofs.lemmas.Result.{err_from_is_err_and}
+use Rattle.base.proofs.EditionLaws.{edition_known, edition_refused}
+use Rattle.cfg.specs.Build.{refused, done}
 use Rattle.picture.proofs.Codels.{frames}
-use Rattle.cfg.proofs.Refusing.{accepted, none_refused, kept_all}
+use Rattle.cfg.proofs.Refusing.{picture_accepted, picture_none_refused, on_unknown, on_known}
 use Rattle.picture.specs.Picture.{picture}
 use Rattle.cfg.proofs.building.build.Goals as goal
 
-pub shape_of-shape-requires-in-Done : goal.shape_of-shape-requires-in-Done
-shape_of-shape-requires-in-Done c =
-    let the-args = c.args in
-    let the-check = c.check-answer in
-    let k = accepted the-args.edition (picture the-args.height the-args.width the-args.codel the-args.colours.now) (length the-args.map.now) (length the-args.rows.now) (length the-args.exits.now) (length the-args.work.now) _ (rw c.in-Done.is at the-check.ensures) in (k.sound.not_high, k.sound.not_wide, k.sound.some, k.sound.small)
+pub returns-in_err-known : goal.returns-in_err-known
+returns-in_err-known c =
+    let p = err_from_is_err_and c.from_residual.result c.from_residual.ensures.1 in
+    let a = c.args in
+    let k = edition_refused a.edition (c.in_err-known.ensures) in
+    rw (p.1, p.2, k.1) (refused _ (on_unknown a.edition (picture a.height a.width a.codel a.colours.now) (length a.map.now) (length a.rows.now) (length a.exits.now) (length a.work.now) k.0))
 
-pub write_table-n-requires : goal.write_table-n-requires
-write_table-n-requires c =
-    let the-args = c.args in
-    let the-check = c.check-answer in
-    let the-shape-of = c.shape_of-shape in
-    let k = accepted the-args.edition (picture the-args.height the-args.width the-args.codel the-args.colours.now) (length the-args.map.now) (length the-args.rows.now) (length the-args.exits.now) (length the-args.work.now) _ (rw c.in-Done.is at the-check.ensures) in rw the-shape-of.ensures k
+pub returns-in_err-check : goal.returns-in_err-check
+returns-in_err-check c =
+    let p = err_from_is_err_and c.from_residual-in_err-check.result c.from_residual-in_err-check.ensures.1 in
+    let a = c.args in
+    let k = edition_known a.edition (c.in_ok-known.ensures) in
+    rw (p.1, p.2) (refused _ (c.in_err-check.ensures ∙ on_known a.edition (picture a.height a.width a.codel a.colours.now) (length a.map.now) (length a.rows.now) (length a.exits.now) (length a.work.now) k.0))
 
-pub returns-in-Done : goal.returns-in-Done
-returns-in-Done c =
-    let the-args = c.args in
-    let the-check = c.check-answer in
-    let the-shape-of = c.shape_of-shape in
-    let the-edition-of = c.edition_of-known in
-    let the-write-table = c.write_table-n in
-    done (none_refused the-args.edition (picture the-args.height the-args.width the-args.codel the-args.colours.now) (length the-args.map.now) (length the-args.rows.now) (length the-args.exits.now) (length the-args.work.now) _ (rw c.in-Done.is at the-check.ensures)) (rw (the-shape-of.ensures, the-edition-of.ensures) at the-write-table.ensures)
+pub shape_of-shape-requires : goal.shape_of-shape-requires
+shape_of-shape-requires c =
+    let a = c.args in
+    let k = picture_accepted (picture a.height a.width a.codel a.colours.now) (length a.map.now) (length a.rows.now) (length a.exits.now) (length a.work.now) _ (c.in_ok-check.ensures) in (k.sound.not_high, k.sound.not_wide, k.sound.some, k.sound.small)
+
+pub write_table-requires : goal.write_table-requires
+write_table-requires c =
+    let a = c.args in
+    let k = picture_accepted (picture a.height a.width a.codel a.colours.now) (length a.map.now) (length a.rows.now) (length a.exits.now) (length a.work.now) _ (c.in_ok-check.ensures) in
+    rw c.shape_of-shape.ensures k
 
 pub returns : goal.returns
-returns c = kept_all c.check-answer.result c.in_default.not-Done c.check-answer.ensures
+returns c =
+    let a = c.args in
+    let k = edition_known a.edition (c.in_ok-known.ensures) in
+    let n = picture_none_refused (picture a.height a.width a.codel a.colours.now) (length a.map.now) (length a.rows.now) (length a.exits.now) (length a.work.now) _ (c.in_ok-check.ensures) in
+    let o = on_known a.edition (picture a.height a.width a.codel a.colours.now) (length a.map.now) (length a.rows.now) (length a.exits.now) (length a.work.now) k.0 in
+    done (sym o ∙ n) (rw (c.shape_of-shape.ensures, k.1) at c.write_table.ensures)
 
 pub invariant_of-grid : goal.invariant_of-grid
 invariant_of-grid c =
-    let the-args = c.args in
-    let k = accepted the-args.edition (picture the-args.height the-args.width the-args.codel the-args.colours.now) (length the-args.map.now) (length the-args.rows.now) (length the-args.exits.now) (length the-args.work.now) _ (rw c.in-Done.is at c.check-answer.ensures) in
+    let a = c.args in
+    let k = picture_accepted (picture a.height a.width a.codel a.colours.now) (length a.map.now) (length a.rows.now) (length a.exits.now) (length a.work.now) _ c.in_ok-check.ensures in
     record { framed = rw c.shape_of-shape.ensures (frames k.sound) }

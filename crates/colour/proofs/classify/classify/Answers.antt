@@ -10,12 +10,12 @@ pub overflow_mul-height : goal.overflow_mul-height
 overflow_mul-height c =
     let done : let a = c.args in Accepted a.pixels.now a.height a.width (length a.colours.now) =
     let a = c.args in
-    accepted a.pixels.now a.height a.width a.setting (length a.colours.now) _ (rw c.in-Done.is at c.check-answer.ensures) in
+    accepted a.pixels.now a.height a.width a.setting (length a.colours.now) _ (rw c.in_ok-check.was at c.check.ensures) in
     let k = done in record { fits = omega (arith, area k.high k.wide) }
 
 pub paint-requires : goal.paint-requires
 paint-requires c =
     let done : let a = c.args in Accepted a.pixels.now a.height a.width (length a.colours.now) =
     let a = c.args in
-    accepted a.pixels.now a.height a.width a.setting (length a.colours.now) _ (rw c.in-Done.is at c.check-answer.ensures) in
+    accepted a.pixels.now a.height a.width a.setting (length a.colours.now) _ (rw c.in_ok-check.was at c.check.ensures) in
     let k = done in (k.bytes, k.fits)

@@ -9,6 +9,6 @@ pub returns-then-k-n : goal.returns-then-k-n
 unfolding unknown_pixel first
 returns-then-k-n c = rw (← c.known_first-k.ensures, lt-ltb _ _ c.if-k-n.true)
 
-pub returns-else-k-n : goal.returns-else-k-n
+pub returns : goal.returns
 unfolding unknown_pixel first
-returns-else-k-n c = rw (← c.known_first-k.ensures, le-ltb _ _ c.if-k-n.false)
+returns c = rw (← c.known_first-k.ensures, le-ltb _ _ c.if-k-n.false)

@@ -8,8 +8,10 @@ use Rattle.piet_c.proofs.p6.piet_read_p6.Goals as goal
 pub returns-then-answer-lt2 : goal.returns-then-answer-lt2
 returns-then-answer-lt2 c = short c.if-answer-lt2.true refl refl refl
 
-pub returns : goal.returns
-returns c =
-    let t = c.of_read-told.result in
-    told t.number (t.first ∷ t.second ∷ []) c.if-answer-lt2.false (c.read_p6.result, refl, c.read_p6.ensures) c.of_read-told.ensures
-    c.put_two.ensures
+pub returns-in-Ok : goal.returns-in-Ok
+returns-in-Ok c =
+    told 0 (c.in-Ok.sides.height ∷ c.in-Ok.sides.width ∷ []) c.if-answer-lt2.false (c.read_p6.result, refl, c.read_p6.ensures) (rw c.in-Ok.is refl) c.put_two.ensures
+
+pub returns-in-Err : goal.returns-in-Err
+returns-in-Err c =
+    told _ _ c.if-answer-lt2.false (c.read_p6.result, refl, c.read_p6.ensures) (rw (c.in-Err.is, c.refuse_at.ensures.0) refl) c.refuse_at.ensures.1
