@@ -20,7 +20,7 @@ use Rattle.machine.specs.Held.{Slices}
 use Rattle.machine.proofs.Only.{AsLong}
 use Rattle.interpreter.specs.declared.State.{State}
 use Rattle.interpreter.specs.declared.Ended.{Ended}
-use Rattle.interpreter.specs.declared.stepping.Moved.TheVariants.{To}
+use Rattle.std.specs.Prelude.{Ok}
 use Rattle.interpreter.specs.Run.{Job, goes, exit_from, step_of, run_of}
 use Rattle.interpreter.specs.History.{Passes, stays}
 use Rattle.interpreter.specs.Outcome.{job_of}
@@ -126,7 +126,7 @@ module _ (n : ℕ) (rows exits : List ℕ) (g : Given) (l₀ : Slices) (from : S
         omega (arith, c r k q, t.cells r q, t.made, count_most r (map target_of t.passed), length-map t.passed target_of)
 
     pub observes_next : {l' : Slices} {at' : State} {by : ℕ} → at.steps < g.terms.limit
-        → Stepped n rows exits g l at l' (To at' by) → AsLong l' l
+        → Stepped n rows exits g l at l' (Ok (record { next = at'; by = by })) → AsLong l' l
         → Observes l' at' (visited at'.region v) (kept_at (at.steps - from.steps) by x)
     unfolding next_of After
     observes_next {l'} {at'} {by} h s k =

@@ -39,7 +39,7 @@ use Rattle.base.proofs.RefusalLaws.{past_places, refused_only, never_done}
 use Rattle.interpreter.specs.Table.{wrong_table, valid_of, every}
 use Rattle.interpreter.specs.Forever as Always
 use Rattle.interpreter.specs.declared.stepping.Moved.{Moved}
-use Rattle.interpreter.specs.declared.stepping.Moved.TheVariants.{To, Halted}
+use Rattle.machine.specs.declared.Stop.{Stop}
 use Rattle.interpreter.specs.Run.{Job, goes}
 use Rattle.interpreter.specs.Outcome.{refused, numbered, slices_of, place_of, job_of, answer, Outcome}
 use Rattle.interpreter.specs.Resume.{machine_of, Placed, Resumed, Started}
@@ -139,22 +139,22 @@ module _ (n : ℕ) (rows exits : List ℕ) (g : Given) (l : Slices) (at : State)
       let s = settled n (record { stop = MaxSteps; at = m }) l' l (record { stop = MaxSteps; at = at' }) h (record { placed = p; stop = refl; at = e }) in
       (ap (λ (x : Ended). x.at) s.0, s.1)
 
-  pub step_only : {l' l'' : Slices} (r r' : Moved) → AsLong l' l → AsLong l'' l → Stepped n rows exits g l at l' r → Stepped n rows exits g l at l'' r'
+  pub step_only : {l' l'' : Slices} (r r' : Result Moved Stop) → AsLong l' l → AsLong l'' l → Stepped n rows exits g l at l' r → Stepped n rows exits g l at l'' r'
       → (r ≡ r') × (l' ≡ l'')
   unfolding next_of After
-  step_only {l'} {l''} (To a i) (To b j) h k p q =
-      let same : machine_of l' a ≡ machine_of l'' b = reached_same (p.is ∙ sym q.is) in
+  step_only {l'} {l''} (Ok a) (Ok b) h k p q =
+      let same : machine_of l' a.next ≡ machine_of l'' b.next = reached_same (p.is ∙ sym q.is) in
       let x = placed_only h p.leaves.0 refl in
       let y = placed_only k q.leaves.0 (sym same) in
-      let place : a ≡ b = x.0 ∙ sym y.0 in
-      let exit : i ≡ j = p.leaves.2 ∙ sym q.leaves.2 in
-      (λ t. To (place t) (exit t), x.1 ∙ sym y.1)
+      let place : a.next ≡ b.next = x.0 ∙ sym y.0 in
+      let exit : a.by ≡ b.by = p.leaves.2 ∙ sym q.leaves.2 in
+      (λ t. Ok (record { next = place t; by = exit t }), x.1 ∙ sym y.1)
     where
       reached_same : {m m' : Machine} → goes m ≡ goes m' → m ≡ m'
       reached_same e = cc
-  step_only (To a i) (Halted s) h k p q = let z = p.is ∙ sym q.is in clash cc
-  step_only (Halted s) (To a i) h k p q = let z = p.is ∙ sym q.is in clash cc
-  step_only (Halted s) (Halted t) h k p q = let z = p.is ∙ sym q.is in let same : s ≡ t = cc in (ap Halted same, p.leaves ∙ sym q.leaves)
+  step_only (Ok a) (Err s) h k p q = let z = p.is ∙ sym q.is in clash cc
+  step_only (Err s) (Ok a) h k p q = let z = p.is ∙ sym q.is in clash cc
+  step_only (Err s) (Err t) h k p q = let z = p.is ∙ sym q.is in let same : s ≡ t = cc in (ap Err same, p.leaves ∙ sym q.leaves)
 
 -- a run is observed in one way
 observed_only : {j : Job} {k : ℕ} {m : Machine} {e : End} {v v' v'' t t' t'' : List ℕ} → length v' ≡ length v → length v'' ≡ length v

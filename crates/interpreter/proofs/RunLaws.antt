@@ -14,7 +14,7 @@ use Rattle.interpreter.specs.Outcome.{job_of}
 use Rattle.interpreter.specs.Resume.{machine_of, Placed, Reaches}
 use Rattle.interpreter.specs.Moving.{next_of, After, Steps}
 use Rattle.interpreter.specs.declared.State.{State}
-use Rattle.interpreter.specs.declared.stepping.Moved.TheVariants.{To, Halted}
+use Rattle.std.specs.Prelude.{Ok, Err}
 use Rattle.interpreter.proofs.Histories.{step_judged}
 
 pub same_job : (rows exits : List ℕ) (g : Given) {l l₀ : Slices} → AsLong l l₀
@@ -67,7 +67,7 @@ module _ (n : ℕ) (rows exits : List ℕ) (g : Given) (l₀ : Slices) (from : S
         (sym (e ∙ ap (λ (j : Job). step_of j (machine_of l at)) (same_job rows exits g a.long)))
 
     pub along_next : {l' : Slices} {at' : State} → at.steps < limit
-        → {by w : ℕ} → Steps (step_of (job_of rows exits g l) (machine_of l at)) w n l at l' (To at' by) → AsLong l' l → Along l' at'
+        → {by w : ℕ} → Steps (step_of (job_of rows exits g l) (machine_of l at)) w n l at l' (Ok (record { next = at'; by = by })) → AsLong l' l → Along l' at'
     unfolding After next_of after
     along_next {l'} {at'} h s e = record {
       placed = s.leaves.0;
@@ -80,7 +80,7 @@ module _ (n : ℕ) (rows exits : List ℕ) (g : Given) (l₀ : Slices) (from : S
     }
 
     pub ends_halted : {l' : Slices} (s : Stop) → at.steps < limit
-        → {w : ℕ} → Steps (step_of (job_of rows exits g l) (machine_of l at)) w n l at l' (Halted s)
+        → {w : ℕ} → Steps (step_of (job_of rows exits g l) (machine_of l at)) w n l at l' (Err s)
         → Reaches n whole l' (record { stop = s; at = at })
     unfolding After next_of after
     ends_halted s h x =

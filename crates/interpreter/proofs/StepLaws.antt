@@ -27,7 +27,7 @@ use Rattle.interpreter.specs.Resume.{machine_of}
 use Rattle.interpreter.specs.Moving.{next_of, After, Steps}
 use Rattle.interpreter.specs.declared.State.{State}
 use Rattle.interpreter.specs.declared.stepping.Moved.{Moved}
-use Rattle.interpreter.specs.declared.stepping.Moved.TheVariants.{To, Halted}
+use Rattle.std.specs.Prelude.{Result, Ok, Err}
 use Rattle.table.specs.ExitNumber.{target_of, lost_slide}
 
 -- the pointers of an exit are a state
@@ -40,7 +40,7 @@ module _ (rows exits : List ℕ) (g : Given) (n : ℕ) (l : Slices) (at : State)
         → Execs (exec g (size_of rows at.region) (op_of w)) l (at_pointers (pointers_of w) at.core) l' (Ok next)
         → target_of w < n → total at.core.reading.skips ≤ at.steps
         → Steps (through (job_of rows exits g l) w (machine_of l at)) w n l at l'
-        (To (record { region = target_of w; steps = at.steps + 1; core = next }) w)
+        (Ok (record { next = record { region = target_of w; steps = at.steps + 1; core = next }; by = w }))
     unfolding out_of Left arrive next_of After
     moved next x t few =
         record { is = ap (arrive w (machine_of l at)) x.is; leaves = (record { stands = x.leaves; inside = t; few = omega (arith, one_more) }, refl, refl) }
@@ -50,21 +50,21 @@ module _ (rows exits : List ℕ) (g : Given) (n : ℕ) (l : Slices) (at : State)
 
     pub halted : (s : Stop)
         → Execs (exec g (size_of rows at.region) (op_of w)) l (at_pointers (pointers_of w) at.core) l' (Err s)
-        → Steps (through (job_of rows exits g l) w (machine_of l at)) w n l at l' (Halted s)
+        → Steps (through (job_of rows exits g l) w (machine_of l at)) w n l at l' (Err s)
     unfolding out_of Left arrive next_of After
     halted s x = record { is = ap (arrive w (machine_of l at)) x.is; leaves = x.leaves }
 
   pub needs_input : at.core.reading.awaiting ≡ true
-      → Steps (step_of (job_of rows exits g l) (machine_of l at)) (exit_from (job_of rows exits g l) (machine_of l at)) n l at l (Halted NeedsInput)
+      → Steps (step_of (job_of rows exits g l) (machine_of l at)) (exit_from (job_of rows exits g l) (machine_of l at)) n l at l (Err NeedsInput)
   unfolding next_of After
   needs_input e = record { is = rw e refl; leaves = refl }
 
   module _ (e : at.core.reading.awaiting ≡ false) (w : ℕ) (hw : w ≡ exit_of exits at.region at.core.pointers) where
-    pub completed : ends w ≡ true → Steps (step_of (job_of rows exits g l) (machine_of l at)) (exit_from (job_of rows exits g l) (machine_of l at)) n l at l (Halted Completed)
+    pub completed : ends w ≡ true → Steps (step_of (job_of rows exits g l) (machine_of l at)) (exit_from (job_of rows exits g l) (machine_of l at)) n l at l (Err Completed)
     unfolding next_of After
     completed z = record { is = rw (e, ← hw, z) refl; leaves = refl }
 
-    pub taken : (l' : Slices) (r : Moved) → ends w ≡ false
+    pub taken : (l' : Slices) (r : Result Moved Stop) → ends w ≡ false
         → Steps (through (job_of rows exits g l) w (machine_of l at)) w n l at l' r
         → Steps (step_of (job_of rows exits g l) (machine_of l at)) (exit_from (job_of rows exits g l) (machine_of l at)) n l at l' r
     taken l' r z x = record { is = x.is ∙ sym (rw (e, ← hw, z) refl); leaves = subst (λ (y : ℕ). After y n l at l' r) hw x.leaves }

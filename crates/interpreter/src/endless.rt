@@ -14,14 +14,11 @@ fn closed(exits: &[u32], region: usize) -> bool
     requires { (region < 65536) × (exits_room (region + 1) ≤ length exits.now) }
     ensures { result ≡ closed exits.now region }
 {
-    let mut k = 0;
-    while k < 8 {
-        let cell = exit_cell(region, k);
-        let w = exits[cell];
+    for k in 0..8 {
+        let w = exits[exit_cell(region, k)];
         if w != 0 {
             return false;
         }
-        k += 1;
     }
     true
 }
@@ -36,8 +33,7 @@ fn onward(rows: &[u32], exits: &[u32], region: usize) -> bool
     if mark == 0 {
         return true;
     }
-    let shut = closed(exits, region);
-    !shut
+    !closed(exits, region)
 }
 
 // Whether all rows go onward.
@@ -45,13 +41,10 @@ fn all_onward(rows: &[u32], exits: &[u32], n: usize) -> bool
     requires { Good n rows.now exits.now }
     ensures { result ≡ every (onward rows.now exits.now) n }
 {
-    let mut i = 0;
-    while i < n {
-        let ok = onward(rows, exits, i);
-        if !ok {
+    for i in 0..n {
+        if !onward(rows, exits, i) {
             return false;
         }
-        i += 1;
     }
     true
 }

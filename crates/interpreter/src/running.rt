@@ -9,7 +9,7 @@ ghost use Rattle.interpreter.specs.Outcome.{Outcome};
 ghost use Rattle.interpreter.specs.Recorded.{Recorded};
 ghost use Rattle.interpreter.specs.Observed.{visited, CanCount, kept_at, ObservedFrom, ObservedAll};
 
-use crate::stepping::{Moved, step};
+use crate::stepping::step;
 use crate::validity::valid;
 use crate::{Ended, State};
 use base::edition::Edition;
@@ -64,12 +64,12 @@ fn resume_observed(
     let mut at = from;
     while at.steps < terms.limit {
         match step(n, rows, exits, terms, input, stack, kinds, values, at) {
-            Moved::To { next, by } => {
-                count_visit(visits, next.region);
-                keep_exit(taken, at.steps - begun, by);
-                at = next;
+            Ok(moved) => {
+                count_visit(visits, moved.next.region);
+                keep_exit(taken, at.steps - begun, moved.by);
+                at = moved.next;
             }
-            Moved::Halted(stop) => {
+            Err(stop) => {
                 return Ended { stop, at };
             }
         }

@@ -14,11 +14,11 @@ use flow::PointerState;
 use machine::{Stop, Terms};
 use table::{Field, LOST_SLIDE, exit_cell, instruction_of, row_cell, state_of, target_of};
 
-// What a step comes to: the place that it reaches, and the exit by which it does.
+// What a step comes to that is made: the place that it reaches, and the exit by which it does.
 #[derive(Clone, Copy)]
-pub enum Moved {
-    To { next: State, by: u32 },
-    Halted(Stop),
+pub struct Moved {
+    pub next: State,
+    pub by: u32,
 }
 
 // The first exit of a region that is not 0, in the order of the attempts, or 0.
@@ -27,15 +27,12 @@ fn open_exit(exits: &[u32], region: u32, p: PointerState) -> u32
     requires valid { Valid p }
     ensures { result ≡ exit_of exits.now region p }
 {
-    let mut k: u8 = 0;
-    while k < 8 {
+    for k in 0..8 {
         let tried = p.attempt(k);
-        let i = exit_cell(region as usize, tried.number() as usize);
-        let w = exits[i];
+        let w = exits[exit_cell(region as usize, tried.number() as usize)];
         if w != 0 {
             return w;
         }
-        k += 1;
     }
     0
 }
@@ -51,7 +48,7 @@ fn go_through(
     values: &mut [i64],
     at: State,
     w: u32,
-) -> Moved
+) -> Result<Moved, Stop>
     requires n_bound { (n ≤ 65536) × (rows_room n ≤ length rows.now) }
     requires placed { Placed n (slices stack.old kinds.old values.old) at }
     requires judged_in { JudgedIn (given terms input.now) at.core.reading }
@@ -65,7 +62,7 @@ fn go_through(
     let target = target_of(w);
     let p = PointerState::of_number(state_of(w));
     let op = machine::op_numbered(instruction_of(w));
-    match machine::exec(
+    let next = machine::exec(
         op,
         size,
         terms,
@@ -74,17 +71,15 @@ fn go_through(
         kinds,
         values,
         core.at_pointers(p),
-    ) {
-        Ok(next) => Moved::To {
-            next: State {
-                region: target,
-                steps: at.steps + 1,
-                core: next,
-            },
-            by: w,
+    )?;
+    Ok(Moved {
+        next: State {
+            region: target,
+            steps: at.steps + 1,
+            core: next,
         },
-        Err(stop) => Moved::Halted(stop),
-    }
+        by: w,
+    })
 }
 
 // Whether no step is made by an exit: there is none, or it is a lost slide. The edition is not asked for: `run` accepts a
@@ -110,7 +105,7 @@ pub fn step(
     kinds: &mut [u8],
     values: &mut [i64],
     at: State,
-) -> Moved
+) -> Result<Moved, Stop>
     requires good { Good n rows.now exits.now }
     requires placed { Placed n (slices stack.old kinds.old values.old) at }
     requires judged_in { JudgedIn (given terms input.now) at.core.reading }
@@ -119,13 +114,13 @@ pub fn step(
 {
     let core = at.core;
     if core.reading.awaiting {
-        return Moved::Halted(Stop::NeedsInput);
+        return Err(Stop::NeedsInput);
     }
     let region = at.region;
     let pointers = core.pointers;
     let w = open_exit(exits, region, pointers);
     if ends(w) {
-        return Moved::Halted(Stop::Completed);
+        return Err(Stop::Completed);
     }
     go_through(n, rows, terms, input, stack, kinds, values, at, w)
 }

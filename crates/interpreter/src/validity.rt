@@ -40,13 +40,10 @@ fn any_wrong_exit(exits: &[u32], n: usize, largest: u32) -> bool
     ensures { result ≡ any (wrong_exits largest n exits.now) n }
 {
     let room = exits_room(n);
-    let mut i = 0;
-    while i < room {
-        let w = exits[i];
-        if wrong_exit(w, n, largest) {
+    for i in 0..room {
+        if wrong_exit(exits[i], n, largest) {
             return true;
         }
-        i += 1;
     }
     false
 }
@@ -56,14 +53,11 @@ fn any_wrong_mark(rows: &[u32], n: usize) -> bool
     requires { (n ≤ 65536) × (rows_room n ≤ length rows.now) }
     ensures { result ≡ any (wrong_mark rows.now) n }
 {
-    let mut i = 0;
-    while i < n {
-        let cell = row_cell(i, Field::Mark);
-        let mark = rows[cell];
+    for i in 0..n {
+        let mark = rows[row_cell(i, Field::Mark)];
         if 1 < mark {
             return true;
         }
-        i += 1;
     }
     false
 }
@@ -87,6 +81,5 @@ pub fn valid(n: usize, rows: &[u32], exits: &[u32], edition: Edition) -> bool
     if any_wrong_mark(rows, n) {
         return false;
     }
-    let wrong = any_wrong_exit(exits, n, largest_in(edition));
-    !wrong
+    !any_wrong_exit(exits, n, largest_in(edition))
 }

@@ -6,35 +6,33 @@ use Rattle.interpreter.proofs.ValidLaws.{every_none, every_more, every_not}
 use Rattle.interpreter.proofs.endless.all_onward.Goals as goal
 
 pub loop-i-init : goal.loop-i-init
-loop-i-init c = (omega arith, every_none _)
+loop-i-init c = every_none _
 
-pub onward-ok-requires : goal.onward-ok-requires
-onward-ok-requires c =
+pub onward-requires : goal.onward-requires
+onward-requires c =
     let the-pre = c.requires in (
       omega (arith, the-pre.few, c.loop-i-test.true),
       omega (arith, the-pre.rows_fit, c.loop-i-test.true),
       omega (arith, the-pre.exits_fit, c.loop-i-test.true),
     )
 
-pub returns-then-not-ok : goal.returns-then-not-ok
-returns-then-not-ok c =
+pub returns-then-not-onward : goal.returns-then-not-onward
+returns-then-not-onward c =
     let the-args = c.args in
     let the-loop = c.loop-i in
     let on = onward the-args.rows.now the-args.exits.now in
-    sym (every_not on the-loop.i the-args.n (omega arith) (sym c.onward-ok.ensures ∙ c.if-not-ok.true))
+    sym (every_not on the-loop.i the-args.n (omega arith) (sym c.onward.ensures ∙ c.if-not-onward.true))
 
 pub loop-i-preserved : goal.loop-i-preserved
 loop-i-preserved c =
     let the-args = c.args in
     let the-loop = c.loop-i in
-    let on = onward the-args.rows.now the-args.exits.now in (
-      omega arith,
-      every_more on the-loop.i (sym c.onward-ok.ensures ∙ c.if-not-ok.false) the-loop.invariant.1,
-    )
+    let on = onward the-args.rows.now the-args.exits.now in
+    every_more on the-loop.i (sym c.onward.ensures ∙ c.if-not-onward.false) the-loop.invariant
 
 pub returns : goal.returns
 returns c =
     let the-args = c.args in
     let on = onward the-args.rows.now the-args.exits.now in
-    let e : c.loop-i.i ≡ the-args.n = omega arith in
-    sym (ap (every on) (sym e) ∙ c.loop-i.invariant.1)
+    let e : c.loop-i.i ≡ the-args.n = omega (arith, c.loop-i.auto.i-end, c.loop-i-test.false) in
+    sym (ap (every on) (sym e) ∙ c.loop-i.invariant)

@@ -1,13 +1,9 @@
 -- `interpreter::endless::all_onward` meets its contract. The loop's invariant: the rows passed go onward. Assumes nothing.
 use mathlib.Core.Bool.{true}
 use mathlib.Core.Path.{◌≡◌}
-use Prim.Native.Nat.{◌-◌, ◌≤◌}
 use Rattle.interpreter.specs.Forever.{onward}
 use Rattle.interpreter.specs.Table.{every}
 use Rattle.interpreter.proofs.endless.all_onward.Given as goal
 
 abbrev pub invariant-loop-i : goal.invariant-loop-i
-invariant-loop-i l = (l.i ≤ l.n) × (every (onward l.rows l.exits) l.i ≡ true)
-
-abbrev pub decreases-loop-i : goal.decreases-loop-i
-decreases-loop-i l = l.n - l.i
+invariant-loop-i l = every (onward l.rows l.exits) l.i ≡ true

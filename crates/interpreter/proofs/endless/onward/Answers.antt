@@ -22,4 +22,4 @@ returns c =
     let the-args = c.args in
     let the-row-cell = c.row_cell-cell in
     rw (ne_eqb (mark_of the-args.rows.now the-args.region) 0 (rw the-row-cell.ensures at c.if-mark-eq0.false))
-    (ap not c.closed-shut.ensures)
+    (ap not c.closed.ensures)

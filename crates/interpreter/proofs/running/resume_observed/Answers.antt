@@ -5,7 +5,7 @@ use native.Mathlib.Omega.{arith}
 use Rattle.machine.specs.Machine.{Given, given}
 use Rattle.machine.specs.Held.{Slices, slices}
 use Rattle.machine.proofs.Only.{AsLong}
-use Rattle.interpreter.specs.declared.stepping.Moved.TheVariants.{To}
+use Rattle.std.specs.Prelude.{Ok}
 use Rattle.interpreter.specs.Resume.{machine_of, Placed}
 use Rattle.interpreter.specs.Moving.{After, Stepped}
 use Rattle.interpreter.proofs.RunLaws.{ends_halted, ends_limit}
@@ -35,11 +35,11 @@ count_visit-requires c =
     let held : Slices = slices c.args.stack.now c.args.kinds.now c.args.values.now in
     let standing : Slices = let l = c.loop-at in slices l.stack l.kinds l.values in
     let left : Slices = slices c.step.new.stack c.step.new.kinds c.step.new.values in
-    let gone : Stepped c.args.n c.args.rows.now c.args.exits.now what standing c.loop-at.at left (To c.in-To.next c.in-To.by) = rw c.in-To.is at c.step.ensures in
-    let reached : Placed c.args.n left c.in-To.next × (c.in-To.next.steps ≡ c.loop-at.at.steps + 1) = (gone.leaves.0, gone.leaves.1) in
+    let gone : Stepped c.args.n c.args.rows.now c.args.exits.now what standing c.loop-at.at left (Ok c.in-Ok.moved) = rw c.in-Ok.is at c.step.ensures in
+    let reached : Placed c.args.n left c.in-Ok.moved.next × (c.in-Ok.moved.next.steps ≡ c.loop-at.at.steps + 1) = (gone.leaves.0, gone.leaves.1) in
     λ h.
     observes_room c.args.n c.args.rows.now c.args.exits.now what held c.args.from c.args.visits.now c.args.taken.now c.loop-at.invariant c.requires.can_count
-    c.loop-at-test.true c.in-To.next.region reached.0.inside h
+    c.loop-at-test.true c.in-Ok.moved.next.region reached.0.inside h
 
 pub loop-at-smaller : goal.loop-at-smaller
 unfolding After
@@ -47,8 +47,8 @@ loop-at-smaller c =
     let what : Given = given c.args.terms c.args.input.now in
     let standing : Slices = let l = c.loop-at in slices l.stack l.kinds l.values in
     let left : Slices = slices c.step.new.stack c.step.new.kinds c.step.new.values in
-    let gone : Stepped c.args.n c.args.rows.now c.args.exits.now what standing c.loop-at.at left (To c.in-To.next c.in-To.by) = rw c.in-To.is at c.step.ensures in
-    let reached : Placed c.args.n left c.in-To.next × (c.in-To.next.steps ≡ c.loop-at.at.steps + 1) = (gone.leaves.0, gone.leaves.1) in
+    let gone : Stepped c.args.n c.args.rows.now c.args.exits.now what standing c.loop-at.at left (Ok c.in-Ok.moved) = rw c.in-Ok.is at c.step.ensures in
+    let reached : Placed c.args.n left c.in-Ok.moved.next × (c.in-Ok.moved.next.steps ≡ c.loop-at.at.steps + 1) = (gone.leaves.0, gone.leaves.1) in
     omega (arith, c.loop-at-test.true, reached.1)
 
 pub loop-at-preserved : goal.loop-at-preserved
@@ -58,47 +58,47 @@ loop-at-preserved c =
     let standing : Slices = let l = c.loop-at in slices l.stack l.kinds l.values in
     let left : Slices = slices c.step.new.stack c.step.new.kinds c.step.new.values in
     let long : AsLong left standing = record { stack = c.step.auto.stack; kinds = c.step.auto.kinds; values = c.step.auto.values } in
-    let gone : Stepped c.args.n c.args.rows.now c.args.exits.now what standing c.loop-at.at left (To c.in-To.next c.in-To.by) = rw c.in-To.is at c.step.ensures in
+    let gone : Stepped c.args.n c.args.rows.now c.args.exits.now what standing c.loop-at.at left (Ok c.in-Ok.moved) = rw c.in-Ok.is at c.step.ensures in
     rw (c.keep_exit.ensures, c.count_visit.ensures)
     (observes_next c.args.n c.args.rows.now c.args.exits.now what held c.args.from c.args.visits.now c.args.taken.now c.loop-at.invariant
     c.loop-at-test.true gone long)
 
-pub shape_of-stack-in-Halted : goal.shape_of-stack-in-Halted
-shape_of-stack-in-Halted c =
+pub shape_of-stack-in-Err : goal.shape_of-stack-in-Err
+shape_of-stack-in-Err c =
     let standing : Slices = let l = c.loop-at in slices l.stack l.kinds l.values in
     let left : Slices = slices c.step.new.stack c.step.new.kinds c.step.new.values in
     let long : AsLong left standing = record { stack = c.step.auto.stack; kinds = c.step.auto.kinds; values = c.step.auto.values } in
     long.stack ∙ c.loop-at.invariant.along.long.stack
 
-pub shape_of-kinds-in-Halted : goal.shape_of-kinds-in-Halted
-shape_of-kinds-in-Halted c =
+pub shape_of-kinds-in-Err : goal.shape_of-kinds-in-Err
+shape_of-kinds-in-Err c =
     let standing : Slices = let l = c.loop-at in slices l.stack l.kinds l.values in
     let left : Slices = slices c.step.new.stack c.step.new.kinds c.step.new.values in
     let long : AsLong left standing = record { stack = c.step.auto.stack; kinds = c.step.auto.kinds; values = c.step.auto.values } in
     long.kinds ∙ c.loop-at.invariant.along.long.kinds
 
-pub shape_of-values-in-Halted : goal.shape_of-values-in-Halted
-shape_of-values-in-Halted c =
+pub shape_of-values-in-Err : goal.shape_of-values-in-Err
+shape_of-values-in-Err c =
     let standing : Slices = let l = c.loop-at in slices l.stack l.kinds l.values in
     let left : Slices = slices c.step.new.stack c.step.new.kinds c.step.new.values in
     let long : AsLong left standing = record { stack = c.step.auto.stack; kinds = c.step.auto.kinds; values = c.step.auto.values } in
     long.values ∙ c.loop-at.invariant.along.long.values
 
-pub shape_of-visits-in-Halted : goal.shape_of-visits-in-Halted
-shape_of-visits-in-Halted c = c.loop-at.invariant.long
+pub shape_of-visits-in-Err : goal.shape_of-visits-in-Err
+shape_of-visits-in-Err c = c.loop-at.invariant.long
 
-pub shape_of-taken-in-Halted : goal.shape_of-taken-in-Halted
-shape_of-taken-in-Halted c = ap length c.loop-at.invariant.kept ∙ taken_length c.args.taken.now c.loop-at.invariant.passed
+pub shape_of-taken-in-Err : goal.shape_of-taken-in-Err
+shape_of-taken-in-Err c = ap length c.loop-at.invariant.kept ∙ taken_length c.args.taken.now c.loop-at.invariant.passed
 
-pub returns-in-Halted : goal.returns-in-Halted
+pub returns-in-Err : goal.returns-in-Err
 unfolding After
-returns-in-Halted c =
+returns-in-Err c =
     let what : Given = given c.args.terms c.args.input.now in
     let held : Slices = slices c.args.stack.now c.args.kinds.now c.args.values.now in
     let x = c.step in
-    let e = rw c.in-Halted.is at x.ensures in
+    let e = rw c.in-Err.is at x.ensures in
     let q = ends_halted c.args.n c.args.rows.now c.args.exits.now what held c.args.from c.loop-at.invariant.along
-    c.in-Halted.stop c.loop-at-test.true e in
+    c.in-Err.stop c.loop-at-test.true e in
     record {
       resumed = q;
       observed_from = observes_end c.args.n c.args.rows.now c.args.exits.now what held c.args.from c.args.visits.now c.args.taken.now c.loop-at.invariant

@@ -9,6 +9,7 @@ use Rattle.machine.specs.Held.{Slices, slices, Execs, at_pointers}
 use Rattle.interpreter.specs.Table.{pointers_of, op_of}
 use Rattle.table.specs.Layout.{size_of}
 use Rattle.interpreter.proofs.StepLaws.{stands_in, moved, halted}
+use Rattle.std.proofs.lemmas.Result.{err_from_is_err_and}
 use Rattle.interpreter.proofs.stepping.go_through.Goals as goal
 
 pub exec-requires : goal.exec-requires
@@ -20,8 +21,8 @@ exec-requires c =
       judged_in = c.requires.judged_in;
     })
 
-pub returns-in-Ok : goal.returns-in-Ok
-returns-in-Ok c =
+pub returns : goal.returns
+returns c =
     let what : Given = given c.args.terms c.args.input.now in
     let held : Slices = slices c.args.stack.now c.args.kinds.now c.args.values.now in
     let left : Slices = slices c.exec.new.stack c.exec.new.kinds c.exec.new.values in
@@ -37,11 +38,12 @@ returns-in-Ok c =
     at c.exec.ensures) in
     λ exits.
     rw c.target_of-target.ensures
-    (moved c.args.rows.now exits what c.args.n held c.args.at c.args.w left c.in-Ok.next
-    (went _ c.in-Ok.is) c.requires.w_nonzero.1 c.requires.placed.few)
+    (moved c.args.rows.now exits what c.args.n held c.args.at c.args.w left c.in_ok-next.next
+    (went _ c.in_ok-next.was) c.requires.w_nonzero.1 c.requires.placed.few)
 
-pub returns-in-Err : goal.returns-in-Err
-returns-in-Err c =
+pub returns-in_err-next : goal.returns-in_err-next
+returns-in_err-next c =
+    let p = err_from_is_err_and c.from_residual.result c.from_residual.ensures.1 in
     let what : Given = given c.args.terms c.args.input.now in
     let held : Slices = slices c.args.stack.now c.args.kinds.now c.args.values.now in
     let left : Slices = slices c.exec.new.stack c.exec.new.kinds c.exec.new.values in
@@ -56,5 +58,5 @@ returns-in-Err c =
     )
     at c.exec.ensures) in
     λ exits.
-    halted c.args.rows.now exits what c.args.n held c.args.at c.args.w left c.in-Err.stop
-    (went _ c.in-Err.is)
+    rw (p.1, p.2) (halted c.args.rows.now exits what c.args.n held c.args.at c.args.w left _
+    (went _ c.in_err-next.was))

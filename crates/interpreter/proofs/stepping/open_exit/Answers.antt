@@ -40,8 +40,8 @@ number-requires c =
     let the-pre = c.requires in
     rw c.attempt-tried.ensures (valid_attempt _ _ the-pre.valid)
 
-pub exit_cell-i-requires : goal.exit_cell-i-requires
-exit_cell-i-requires c =
+pub exit_cell-requires : goal.exit_cell-requires
+exit_cell-requires c =
     let tries : c.number.result ≡ state_number (attempt_of c.args.p c.loop-k.k) = c.number.ensures ∙ ap state_number c.attempt-tried.ensures in
     let below : c.number.result < 8 =
     let h = valid_attempt c.args.p c.loop-k.k
@@ -49,40 +49,40 @@ exit_cell-i-requires c =
     let the-pre = c.requires in
     (omega (arith, the-pre.region_bound.0), below)
 
-pub bounds-exits-i : goal.bounds-exits-i
-bounds-exits-i c =
+pub bounds-exits-exit_cell : goal.bounds-exits-exit_cell
+bounds-exits-exit_cell c =
     let tries : c.number.result ≡ state_number (attempt_of c.args.p c.loop-k.k) = c.number.ensures ∙ ap state_number c.attempt-tried.ensures in
     let below : c.number.result < 8 =
     let h = valid_attempt c.args.p c.loop-k.k
     c.requires.valid in omega (arith, tries, h.dp, h.cc) in
     let the-pre = c.requires in
-    omega (arith, c.exit_cell-i.ensures, below, the-pre.region_bound.1)
+    omega (arith, c.exit_cell.ensures, below, the-pre.region_bound.1)
 
 pub returns-then-w-ne0 : goal.returns-then-w-ne0
 returns-then-w-ne0 c =
     let tries : c.number.result ≡ state_number (attempt_of c.args.p c.loop-k.k) = c.number.ensures ∙ ap state_number c.attempt-tried.ensures in
-    let reads-tried : get_or c.args.exits.now c.exit_cell-i.result 0 ≡ tried c.args.exits.now c.args.region c.args.p c.loop-k.k =
+    let reads-tried : get_or c.args.exits.now c.exit_cell.result 0 ≡ tried c.args.exits.now c.args.region c.args.p c.loop-k.k =
     ap (λ (t : ℕ). get_or c.args.exits.now t 0)
-    (c.exit_cell-i.ensures ∙ ap (exit_cell c.args.region) tries) in
+    (c.exit_cell.ensures ∙ ap (exit_cell c.args.region) tries) in
     let the-args = c.args in
     let the-loop = c.loop-k in
     let e = reads-tried in
     e ∙ found the-args.exits.now the-args.region the-args.p the-loop.k (omega arith) (λ z. c.if-w-ne0.true (e ∙ z))
-    ∙ the-loop.invariant.1
+    ∙ the-loop.invariant
 
 pub loop-k-preserved : goal.loop-k-preserved
 loop-k-preserved c =
     let tries : c.number.result ≡ state_number (attempt_of c.args.p c.loop-k.k) = c.number.ensures ∙ ap state_number c.attempt-tried.ensures in
-    let reads-tried : get_or c.args.exits.now c.exit_cell-i.result 0 ≡ tried c.args.exits.now c.args.region c.args.p c.loop-k.k =
+    let reads-tried : get_or c.args.exits.now c.exit_cell.result 0 ≡ tried c.args.exits.now c.args.region c.args.p c.loop-k.k =
     ap (λ (t : ℕ). get_or c.args.exits.now t 0)
-    (c.exit_cell-i.ensures ∙ ap (exit_cell c.args.region) tries) in
+    (c.exit_cell.ensures ∙ ap (exit_cell c.args.region) tries) in
     let the-args = c.args in
     let the-loop = c.loop-k in
     let e = reads-tried in
-    (omega arith, passed the-args.exits.now the-args.region the-args.p the-loop.k (omega arith) (sym e ∙ c.if-w-ne0.false) ∙ the-loop.invariant.1)
+    passed the-args.exits.now the-args.region the-args.p the-loop.k (omega arith) (sym e ∙ c.if-w-ne0.false) ∙ the-loop.invariant
 
 pub returns : goal.returns
 returns c =
     let the-args = c.args in
-    open-end the-args.exits.now the-args.region the-args.p c.loop-k.k (omega arith)
-    ∙ c.loop-k.invariant.1
+    open-end the-args.exits.now the-args.region the-args.p c.loop-k.k (omega (arith, c.loop-k.auto.k-end, c.loop-k-test.false))
+    ∙ c.loop-k.invariant

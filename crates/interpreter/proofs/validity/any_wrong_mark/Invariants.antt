@@ -1,12 +1,8 @@
 -- `interpreter::validity::any_wrong_mark` meets its contract. The loop's invariant: none of the marks passed is above 1. Assumes nothing.
 use mathlib.Core.Bool.{false}
 use mathlib.Core.Path.{◌≡◌}
-use Prim.Native.Nat.{◌-◌, ◌≤◌}
 use Rattle.interpreter.specs.Table.{any, wrong_mark}
 use Rattle.interpreter.proofs.validity.any_wrong_mark.Given as goal
 
 abbrev pub invariant-loop-i : goal.invariant-loop-i
-invariant-loop-i l = (l.i ≤ l.n) × (any (wrong_mark l.rows) l.i ≡ false)
-
-abbrev pub decreases-loop-i : goal.decreases-loop-i
-decreases-loop-i l = l.n - l.i
+invariant-loop-i l = any (wrong_mark l.rows) l.i ≡ false

@@ -51,4 +51,4 @@ returns c =
     long_enough a.n a.rows.now a.exits.now (omega (arith, c.rows_room.ensures, c.if-rows-rows_room.false))
     (omega (arith, c.exits_room.ensures, c.if-exits-exits_room.false)) in
     rw (right-count, right-lengths, sym c.any_wrong_mark.ensures ∙ c.if-any_wrong_mark.false, ← c.largest_in.ensures)
-    (ap not c.any_wrong_exit-wrong.ensures)
+    (ap not c.any_wrong_exit.ensures)
