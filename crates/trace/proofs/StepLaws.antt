@@ -1,5 +1,5 @@
 -- A step that is told: it is made, what is told lies within the slices, and its line is that of the step. Assumes nothing.
-use mathlib.Core.Path.{◌≡◌, sym, ◌∙◌}
+use mathlib.Core.Path.{◌≡◌, refl, sym, ◌∙◌}
 use mathlib.Core.List.{List}
 use Prim.Native.Nat.{ℕ, ◌+◌, ◌<◌, ◌≤◌}
 use native.Mathlib.Omega.{arith}
@@ -14,7 +14,8 @@ use Rattle.machine.specs.Machine.{Given}
 use Rattle.machine.specs.Held.{Slices}
 use Rattle.machine.proofs.Emitting.{outs_length}
 use Rattle.interpreter.specs.declared.State.{State}
-use Rattle.interpreter.specs.declared.stepping.Moved.TheVariants.{To, Halted}
+use Rattle.std.specs.Prelude.{Result, Ok, Err, IsOk}
+use Rattle.interpreter.specs.declared.stepping.Moved.{Moved}
 use Rattle.interpreter.specs.Table.{op_of}
 use Rattle.interpreter.specs.Run.{goes, exit_from, step_of}
 use Rattle.interpreter.specs.Outcome.{job_of}
@@ -41,11 +42,12 @@ inside p = record {
 }
 
 module _ (n : ℕ) (rows exits : List ℕ) (g : Given) (l : Slices) (at : State) (l' : Slices) where
-  pub never_halts : {A : Type 0} {s : Stop} → Stepped n rows exits g l at l' (Halted s) → Goes (job_of rows exits g l) (machine_of l at) → A
+  pub made : (r : Result Moved Stop) → Stepped n rows exits g l at l' r → Goes (job_of rows exits g l) (machine_of l at) → IsOk r
   unfolding next_of
-  never_halts x y = let z = x.is ∙ y.1 in clash cc
+  made (Ok m) x y = refl
+  made (Err s) x y = let z = x.is ∙ y.1 in clash cc
 
-  module _ {at' : State} {by : ℕ} (x : Stepped n rows exits g l at l' (To at' by)) where
+  module _ {at' : State} {by : ℕ} (x : Stepped n rows exits g l at l' (Ok (record { next = at'; by = by }))) where
     pub reached : Placed n l' at'
     unfolding After
     reached = x.leaves.0
@@ -66,7 +68,7 @@ module _ (n : ℕ) (rows exits : List ℕ) (g : Given) (l : Slices) (at : State)
     some_by = rw is_exit (some_exit _ (step_kept (job_of rows exits g l) (machine_of l at) (machine_of l' at') goes_on).some)
 
     -- as the exit of the table
-    pub stepped : Stepped n rows exits g l at l' (To at' (exit_from (job_of rows exits g l) (machine_of l at)))
+    pub stepped : Stepped n rows exits g l at l' (Ok (record { next = at'; by = exit_from (job_of rows exits g l) (machine_of l at) }))
     stepped = rw is_exit at x
 
     pub line_of : {label took : List ℕ} {op : Op} → label ≡ label_in rows at.region → op ≡ op_of by → took ≡ stack_text (stack_of l.stack at.core.depth)

@@ -1,12 +1,11 @@
 -- Inner: what the parts of a trace promise, over a table: the lines of a run's steps, and its end. Assumes nothing.
-use Rattle.std.specs.Prelude.{◌≡◌, List, [], ◌++◌, ℕ, min, ◌-◌, ◌*◌, ◌<◌, ◌≤◌, length}
+use Rattle.std.specs.Prelude.{◌≡◌, List, [], ◌++◌, ℕ, min, ◌-◌, ◌*◌, ◌<◌, ◌≤◌, length, Ok}
 use Rattle.flow.specs.Pointer.{Valid}
 use Rattle.machine.specs.Machine.{Given}
 use Rattle.machine.specs.Place.{Machine, start}
 use Rattle.machine.specs.Held.{Slices}
 use Rattle.interpreter.specs.declared.State.{State}
 use Rattle.interpreter.specs.declared.Ended.{Ended}
-use Rattle.interpreter.specs.declared.stepping.Moved.TheVariants.{To}
 use Rattle.interpreter.specs.Table.{op_of, Good}
 use Rattle.interpreter.specs.Run.{Job, goes, exit_from, step_of}
 use Rattle.interpreter.specs.Outcome.{job_of, end_of, ended_of, slices_of}
@@ -39,7 +38,7 @@ Goes j m = (m' : Machine) × (step_of j m ≡ goes m')
 
 -- a step was made and its line written
 pub record Steps (n : ℕ) (rows exits : List ℕ) (g : Given) (l : Slices) (at : State) (l' : Slices) (d : List ℕ) (from : ℕ) (r : Shown) (d' : List ℕ) : Type 0 where
-  pub stepped : Stepped n rows exits g l at l' (To r.at (exit_from (job_of rows exits g l) (machine_of l at)))
+  pub stepped : Stepped n rows exits g l at l' (Ok (record { next = r.at; by = exit_from (job_of rows exits g l) (machine_of l at) }))
   pub line : Wrote d from (step_line (job_of rows exits g l) (machine_of l at) (machine_of l' r.at)) r.end d' 512
 
 -- a run of a table of which so many moves can be told

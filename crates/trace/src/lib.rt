@@ -18,7 +18,7 @@ ghost use Rattle.trace.specs.Told.{Goes, Steps, Tellable, Tells, Endable, Ends};
 
 use answer::{label_region, run_parts};
 use base::edition::Edition;
-use interpreter::{Ended, Moved, State, begin, step};
+use interpreter::{Ended, State, begin, step};
 use job::Parts;
 use machine::{Terms, op_numbered};
 use piet::run_picture::Pictured;
@@ -76,13 +76,11 @@ fn put_step(
     let core = at.core;
     let mut took = [0u8; 198];
     let size = put_stack(&mut took, 0, stack, core.depth);
-    let Moved::To { next, by } = step(n, rows, exits, terms, input, stack, kinds, values, at) else {
-        // never reached: only a step is told that is made
-        return Shown { at, end };
-    };
+    let moved = step(n, rows, exits, terms, input, stack, kinds, values, at).unwrap();
+    let next = moved.next;
     let mut label = [0u8; 22];
     let named = label_region(rows, at.region as usize, &mut label);
-    let op = op_numbered(instruction_of(by));
+    let op = op_numbered(instruction_of(moved.by));
     let after = put_move(
         out,
         end,

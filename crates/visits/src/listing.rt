@@ -27,13 +27,11 @@ pub fn list_unvisited(n: usize, rows: &[u32], visits: &[u64], unvisited: &mut [u
     ensures { Lists n rows.now visits.now unvisited.old unvisited.new result }
 {
     let mut listed = 0;
-    let mut i = 0;
-    while i < n {
+    for i in 0..n {
         if never_entered(rows, visits, i) {
             unvisited[listed] = i as u32;
             listed += 1;
         }
-        i += 1;
     }
     fill(unvisited, listed, n, 0);
     listed

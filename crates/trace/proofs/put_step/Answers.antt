@@ -6,10 +6,10 @@ use lib.ListN.{length}
 use lib.Seq.{length-take-le}
 use Rattle.machine.specs.Machine.{Given, given, op_numbered}
 use Rattle.machine.specs.Held.{Slices, slices}
-use Rattle.interpreter.specs.declared.stepping.Moved.TheVariants.{To}
+use Rattle.std.specs.Prelude.{Ok}
 use Rattle.interpreter.specs.Moving.{Stepped}
 use Rattle.telling.proofs.PartLaws.{part_size, part_is}
-use Rattle.trace.proofs.StepLaws.{part_brief, inside, never_halts, reached, some_by, stepped, line_of}
+use Rattle.trace.proofs.StepLaws.{part_brief, inside, made, reached, some_by, stepped, line_of}
 use Rattle.trace.proofs.put_step.Goals as goal
 
 pub step-requires : goal.step-requires
@@ -20,14 +20,12 @@ step-requires c = let p = c.requires in record {
   steps_bound = p.steps_bound.0;
 }
 
-pub returns-in_default : goal.returns-in_default
-returns-in_default c =
+pub unwrap-moved-requires : goal.unwrap-moved-requires
+unwrap-moved-requires c =
     let what : Given = given c.args.terms c.args.input.now in
     let held : Slices = slices c.args.stack.now c.args.kinds.now c.args.values.now in
     let left : Slices = slices c.step.new.stack c.step.new.kinds c.step.new.values in
-    never_halts c.args.n c.args.rows.now c.args.exits.now what held c.args.at left
-    (subst (Stepped c.args.n c.args.rows.now c.args.exits.now what held c.args.at left) c.in_default.is c.step.ensures)
-    c.requires.goes
+    made c.args.n c.args.rows.now c.args.exits.now what held c.args.at left c.step.result c.step.ensures c.requires.goes
 
 pub label_region-named-requires : goal.label_region-named-requires
 label_region-named-requires c = (c.requires.has_label, omega arith)
@@ -37,8 +35,8 @@ instruction_of-requires c =
     let what : Given = given c.args.terms c.args.input.now in
     let held : Slices = slices c.args.stack.now c.args.kinds.now c.args.values.now in
     let left : Slices = slices c.step.new.stack c.step.new.kinds c.step.new.values in
-    let gone : Stepped c.args.n c.args.rows.now c.args.exits.now what held c.args.at left (To c.in-To.next c.in-To.by) =
-    subst (Stepped c.args.n c.args.rows.now c.args.exits.now what held c.args.at left) c.in-To.is c.step.ensures in
+    let gone : Stepped c.args.n c.args.rows.now c.args.exits.now what held c.args.at left (Ok c.unwrap-moved.result) =
+    subst (Stepped c.args.n c.args.rows.now c.args.exits.now what held c.args.at left) c.unwrap-moved.ensures c.step.ensures in
     some_by c.args.n c.args.rows.now c.args.exits.now what held c.args.at left gone
 
 pub slice_bounds-put_move-end : goal.slice_bounds-put_move-end
@@ -61,8 +59,8 @@ put_move-after-requires c =
     let what : Given = given c.args.terms c.args.input.now in
     let held : Slices = slices c.args.stack.now c.args.kinds.now c.args.values.now in
     let left : Slices = slices c.step.new.stack c.step.new.kinds c.step.new.values in
-    let gone : Stepped c.args.n c.args.rows.now c.args.exits.now what held c.args.at left (To c.in-To.next c.in-To.by) =
-    subst (Stepped c.args.n c.args.rows.now c.args.exits.now what held c.args.at left) c.in-To.is c.step.ensures in
+    let gone : Stepped c.args.n c.args.rows.now c.args.exits.now what held c.args.at left (Ok c.unwrap-moved.result) =
+    subst (Stepped c.args.n c.args.rows.now c.args.exits.now what held c.args.at left) c.unwrap-moved.ensures c.step.ensures in
     let brief : c.put_stack-size.result ≤ 198 = let w = c.put_stack-size.ensures in omega (arith, part_size w, w.short) in
     let within : c.put_stack-size.result ≤ length c.put_stack-size.new.out = omega (arith, brief, c.put_stack-size.auto.out) in
     let t = c.label_region-named.ensures in record {
@@ -75,8 +73,8 @@ returns c =
     let what : Given = given c.args.terms c.args.input.now in
     let held : Slices = slices c.args.stack.now c.args.kinds.now c.args.values.now in
     let left : Slices = slices c.step.new.stack c.step.new.kinds c.step.new.values in
-    let gone : Stepped c.args.n c.args.rows.now c.args.exits.now what held c.args.at left (To c.in-To.next c.in-To.by) =
-    subst (Stepped c.args.n c.args.rows.now c.args.exits.now what held c.args.at left) c.in-To.is c.step.ensures in
+    let gone : Stepped c.args.n c.args.rows.now c.args.exits.now what held c.args.at left (Ok c.unwrap-moved.result) =
+    subst (Stepped c.args.n c.args.rows.now c.args.exits.now what held c.args.at left) c.unwrap-moved.ensures c.step.ensures in
     record {
       stepped = stepped c.args.n c.args.rows.now c.args.exits.now what held c.args.at left gone;
       line =
