@@ -99,13 +99,17 @@ module _ {p : Picture} {map : List ℕ} {r j : ℕ} (s : ℕ) (G : Grounds p map
   pub leave_inside : Inside p (i / cols) (i % cols)
   leave_inside = rw (ei, ec) (inside_of G.sound j (omega (arith, l.codel, G.long)))
 
+  -- the codels of the way that the attempt comes to
+  pub way_inside : {e : Edition} {q : PointerState} {w : Way} → s < 8 → q ≡ of_number s → Attempt e p (i / cols) (i % cols) q w → InGrid p w
+  way_inside h eq a = placed leave_inside (rw eq (valid_number s h)) a
+
   pub tries_read : {e : Edition} {v from : ℕ} {q : PointerState} {w : Way} {rows exits work : List ℕ} {tail : ℕ} {rows' work' : List ℕ} {tail' : ℕ}
       → Found e p map r → Queue e p map rows work tail → length work ≡ codels p → s < 8
-      → q ≡ of_number s → Attempt e p (i / cols) (i % cols) q w → InGrid p w
+      → q ≡ of_number s → Attempt e p (i / cols) (i % cols) q w
       → from ≡ colour_at p (i / cols) (i % cols) → v ≡ way_number e p map from s w → Queued map (cols_of p) rows work tail w rows' work' tail'
       → Tries e p map r s rows exits work tail rows' (set exits (exit_cell r s) v) work' tail'
-  tries_read {e} {v} {from} {q} {w} f Q long h eq a inside ef n d =
+  tries_read {e} {v} {from} {q} {w} f Q long h eq a ef n d =
       let a' : Attempt e p (j / cols_of p) (j % cols_of p) (of_number s) w = rw (ei, ec, eq) at a in
       let ef' : from ≡ codel_colour p j = rw (ei, ec) at ef in
       let n' : v ≡ way_number e p map (codel_colour p j) s w = rw ef' at n in
-      tries G f Q long h l a' inside n' d
+      tries G f Q long h l a' (way_inside h eq a) n' d
