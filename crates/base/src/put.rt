@@ -8,12 +8,9 @@ pub fn put_word(out: &mut [u8], at: usize, word: &[u8]) -> usize
     requires { Room out.old at word.now }
     ensures { Put out.old at word.now result out.new }
 {
-    let mut i: usize = 0;
-    while i < word.len() {
-        out[at + i] = word[i];
-        i += 1;
-    }
-    at + i
+    let next = at + word.len();
+    out[at..next].copy_from_slice(word);
+    next
 }
 
 // One decimal digit.
