@@ -1,11 +1,8 @@
 -- Inner: what the helpers of `read_p6` promise, by a scan from the left. No entry point's contract cites it. Assumes nothing.
-use Rattle.std.specs.Prelude.{◌≡◌, Bool, true, false, not, cond, ◌||◌, List, [], ◌∷◌, ℕ, ◌+◌, ◌-◌, ◌*◌, ◌<◌, ◌≤◌, eqb, ltb, length, drop}
+use Rattle.std.specs.Prelude.{◌≡◌, Bool, true, false, not, cond, ◌||◌, List, [], ◌∷◌, ℕ, ◌+◌, ◌-◌, ◌*◌, ◌<◌, ◌≤◌, eqb, ltb, length, drop, Option, None, Some}
 use Rattle.base.specs.Text.{digit}
 use Rattle.netpbm.specs.declared.field.Number.{Number}
-use Rattle.netpbm.specs.declared.field.Found.{Found}
-use Rattle.netpbm.specs.declared.field.Found.TheVariants.{At, Missing}
 use Rattle.netpbm.specs.declared.reading.Heading.{Heading}
-use Rattle.netpbm.specs.declared.reading.Heading.TheVariants.{Whole, Malformed}
 use Rattle.netpbm.specs.File.{header_white, Field, IsHeader}
 
 -- whether a byte goes on with a gap, inside a comment or not, and whether the next byte is inside one
@@ -63,9 +60,9 @@ pub record FieldAt (file : List ℕ) (at value next : ℕ) : Type 0 where
   pub ends : stops (drop next file) ≡ true
   pub value_is : value ≡ capped number
 
-abbrev pub Finds : List ℕ → ℕ → Found → Type 0
-Finds file at (At number) = FieldAt file at number.value number.next
-Finds file at Missing = (n : ℕ) (after : List ℕ) → stops after ≡ true → Field (drop at file) n after → ⊥
+abbrev pub Finds : List ℕ → ℕ → Option Number → Type 0
+Finds file at (Some number) = FieldAt file at number.value number.next
+Finds file at None = (n : ℕ) (after : List ℕ) → stops after ≡ true → Field (drop at file) n after → ⊥
 
 -- a header stands at the start of a file, its sides known up to the cap
 pub record HeaderAt (file : List ℕ) (height width start : ℕ) : Type 0 where
@@ -76,6 +73,6 @@ pub record HeaderAt (file : List ℕ) (height width start : ℕ) : Type 0 where
   pub height_is : height ≡ capped tall
   pub width_is : width ≡ capped broad
 
-abbrev pub Heads : List ℕ → Heading → Type 0
-Heads file (Whole height width start) = HeaderAt file height width start
-Heads file Malformed = (height width : ℕ) (pixels : List ℕ) → IsHeader file height width 255 pixels → ⊥
+abbrev pub Heads : List ℕ → Option Heading → Type 0
+Heads file (Some h) = HeaderAt file h.height h.width h.start
+Heads file None = (height width : ℕ) (pixels : List ℕ) → IsHeader file height width 255 pixels → ⊥

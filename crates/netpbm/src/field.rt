@@ -4,6 +4,7 @@ ghost use Rattle.netpbm.specs.File.{header_white};
 ghost use Rattle.netpbm.specs.Scan.{goes_on, comment_after, cap, capped, GapEnd, NumberEnd, Finds};
 
 use base::digit::is_digit;
+use std::cmp::min;
 
 // Every value from here on is kept as this one: no side in bounds and no right maximum is as large. So a number of any length
 // is read without wrapping.
@@ -16,49 +17,27 @@ pub struct Number {
     pub next: usize,
 }
 
-// A gap and a number that were looked for.
-#[derive(Clone, Copy)]
-pub enum Found {
-    At(Number),
-    Missing,
-}
-
+#[tactic(auto, unfolding(crate::specs::File::header_white))]
 pub fn is_header_white(b: u8) -> bool
     ensures { result ≡ header_white b }
 {
-    if b == 0x20 {
-        return true;
-    }
-    if b == 0x09 {
-        return true;
-    }
-    if b == 0x0D {
-        return true;
-    }
-    b == 0x0A
+    matches!(b, 0x20 | 0x09 | 0x0D | 0x0A)
 }
 
 // Whether a byte belongs to a gap.
+#[tactic(auto, unfolding(crate::specs::Scan::goes_on))]
 fn goes_on(inside: bool, b: u8) -> bool
     ensures { result ≡ goes_on inside b }
 {
-    if inside {
-        return true;
-    }
-    if is_header_white(b) {
-        return true;
-    }
-    b == 0x23
+    inside || is_header_white(b) || b == 0x23
 }
 
 // Whether the byte after one of a gap is inside a comment.
+#[tactic(auto, unfolding(crate::specs::Scan::comment_after))]
 fn comment_after(inside: bool, b: u8) -> bool
     ensures { result ≡ comment_after inside b }
 {
-    if inside {
-        return b != 0x0A;
-    }
-    b == 0x23
+    if inside { b != 0x0A } else { b == 0x23 }
 }
 
 // Where the gap at an index ends. A comment that no newline ends runs to the end of the file.
@@ -67,28 +46,23 @@ fn gap_end(file: &[u8], at: usize) -> usize
     ensures { GapEnd file.now at result }
 {
     let mut inside = false;
-    let mut i = at;
-    while i < file.len() {
+    for i in at..file.len() {
         let b = file[i];
         if !goes_on(inside, b) {
             return i;
         }
         inside = comment_after(inside, b);
-        i += 1;
     }
-    i
+    file.len()
 }
 
 // A value with one digit more.
+#[tactic(auto, unfolding(crate::specs::Scan::capped))]
 fn next_value(value: usize, b: u8) -> usize
     requires { (value ≤ cap) × (0x30 ≤ b) }
     ensures { result ≡ capped (value * 10 + (b - 0x30)) }
 {
-    let n = value * 10 + (b - 0x30) as usize;
-    if n < CAP {
-        return n;
-    }
-    CAP
+    min(value * 10 + (b - 0x30) as usize, CAP)
 }
 
 fn number_at(file: &[u8], at: usize) -> Number
@@ -96,36 +70,31 @@ fn number_at(file: &[u8], at: usize) -> Number
     ensures { NumberEnd file.now at result }
 {
     let mut value: usize = 0;
-    let mut i = at;
-    while i < file.len() {
+    for i in at..file.len() {
         let b = file[i];
         if !is_digit(b) {
-            return Number {
-                value: value,
-                next: i,
-            };
+            return Number { value, next: i };
         }
         value = next_value(value, b);
-        i += 1;
     }
     Number {
-        value: value,
-        next: i,
+        value,
+        next: file.len(),
     }
 }
 
 // A gap and a number, one byte of each at least.
-pub fn field_at(file: &[u8], at: usize) -> Found
+pub fn field_at(file: &[u8], at: usize) -> Option<Number>
     requires { at ≤ length file.now }
     ensures { Finds file.now at result }
 {
     let start = gap_end(file, at);
     if start == at {
-        return Found::Missing;
+        return None;
     }
     let number = number_at(file, start);
     if number.next == start {
-        return Found::Missing;
+        return None;
     }
-    Found::At(number)
+    Some(number)
 }

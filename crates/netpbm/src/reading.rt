@@ -2,7 +2,7 @@
 ghost use Rattle.netpbm.specs.Scan.{Heads};
 ghost use Rattle.netpbm.specs.Reads.{Outcome};
 
-use crate::field::{Found, field_at, is_header_white};
+use crate::field::{field_at, is_header_white};
 use base::limits::wrong_side;
 use base::put::put_word;
 use base::refusal::Refusal;
@@ -16,66 +16,57 @@ pub struct Sides {
 
 // What stands before the pixels: the sides, up to the cap of a field's value, and where the pixels start.
 #[derive(Clone, Copy)]
-pub enum Heading {
-    Whole {
-        height: usize,
-        width: usize,
-        start: usize,
-    },
-    Malformed,
+pub struct Heading {
+    height: usize,
+    width: usize,
+    start: usize,
 }
 
 // `P6`, 0x50 and 0x36, and what has to follow it.
-fn heading_of(file: &[u8]) -> Heading
+fn heading_of(file: &[u8]) -> Option<Heading>
     ensures { Heads file.now result }
 {
     if file.len() < 2 {
-        return Heading::Malformed;
+        return None;
     }
     if file[0] != 0x50 {
-        return Heading::Malformed;
+        return None;
     }
     if file[1] != 0x36 {
-        return Heading::Malformed;
+        return None;
     }
-    let Found::At(width) = field_at(file, 2) else {
-        return Heading::Malformed;
-    };
-    let Found::At(height) = field_at(file, width.next) else {
-        return Heading::Malformed;
-    };
-    let Found::At(maximum) = field_at(file, height.next) else {
-        return Heading::Malformed;
-    };
+    let width = field_at(file, 2)?;
+    let height = field_at(file, width.next)?;
+    let maximum = field_at(file, height.next)?;
     if maximum.value != 255 {
-        return Heading::Malformed;
+        return None;
     }
     let last = maximum.next;
     if last == file.len() {
-        return Heading::Malformed;
+        return None;
     }
     if !is_header_white(file[last]) {
-        return Heading::Malformed;
+        return None;
     }
-    Heading::Whole {
+    Some(Heading {
         height: height.value,
         width: width.value,
         start: last + 1,
-    }
+    })
 }
 
 // The pixel bytes of a file, row by row, into the lent pixels.
 pub fn read_p6(file: &[u8], pixels: &mut [u8]) -> Result<Sides, Refusal>
     ensures { Outcome file.now pixels.old result pixels.new }
 {
-    let Heading::Whole {
+    let Some(heading) = heading_of(file) else {
+        return Err(Refusal::Header);
+    };
+    let Heading {
         height,
         width,
         start,
-    } = heading_of(file)
-    else {
-        return Err(Refusal::Header);
-    };
+    } = heading;
     if wrong_side(height) {
         return Err(Refusal::Size);
     }

@@ -1,10 +1,11 @@
-use mathlib.Core.Path.{◌∙◌, sym, refl}
+use mathlib.Core.Bool.{false}
+use mathlib.Core.Path.{◌≡◌, ◌∙◌, sym, subst}
+use Prim.Native.Nat.{ℕ}
 use native.Mathlib.Omega.{arith}
+use lib.ListN.{length, drop}
+use Rattle.netpbm.specs.Scan.{past_gap}
 use Rattle.netpbm.proofs.Gaps.{gap_on, gap_end, gap_all}
 use Rattle.netpbm.proofs.field.gap_end.Goals as goal
-
-pub loop-i-init : goal.loop-i-init
-loop-i-init c = (omega arith, (omega arith, refl))
 
 pub returns-then-not-goes_on : goal.returns-then-not-goes_on
 returns-then-not-goes_on c =
@@ -23,5 +24,11 @@ loop-i-preserved c =
 
 pub returns : goal.returns
 returns c =
-    let the-args = c.args in
-    record { from = omega arith; to = omega arith; is = c.loop-i.invariant.1.1 ∙ gap_all the-args.file.now c.loop-i.inside c.loop-i.i c.loop-i-test.false }
+    let file = c.args.file.now in
+    let l = c.loop-i in
+    let end : l.i ≡ length file = omega arith in
+    record {
+      from = omega arith;
+      to = omega arith;
+      is = subst (λ (n : ℕ). past_gap false (drop c.args.at file) ≡ drop n file) end (l.invariant.1.1 ∙ gap_all file l.inside l.i (omega arith));
+    }

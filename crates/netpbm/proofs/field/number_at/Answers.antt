@@ -1,18 +1,15 @@
 use mathlib.Core.Bool.{true, false}
-use mathlib.Core.Path.{◌≡◌, ◌∙◌, sym, ap, refl}
-use Prim.Native.Nat.{◌+◌, ◌*◌}
+use mathlib.Core.Path.{◌≡◌, ◌∙◌, sym, ap, subst}
+use Prim.Native.Nat.{ℕ, ◌+◌, ◌*◌, ◌≤◌}
 use Prim.Native.Nat.{◌-◌}
 use native.Mathlib.Omega.{arith}
-use lib.ListN.{drop, get_or}
+use lib.ListN.{length, drop, get_or}
 use Rattle.base.specs.Text.{digit}
-use Rattle.netpbm.specs.Scan.{capped}
+use Rattle.netpbm.specs.Scan.{past_digits, capped}
 use Rattle.netpbm.proofs.Digits.{digits_on, digits_end, digits_all, value_on, value_end, value_all}
 use Rattle.netpbm.proofs.Caps.{capped_most, capped_again, same}
 use Rattle.base.proofs.Digits.{digit_range}
 use Rattle.netpbm.proofs.field.number_at.Goals as goal
-
-pub loop-i-init : goal.loop-i-init
-loop-i-init c = (omega arith, (omega arith, (omega arith, (refl, refl))))
 
 pub returns-then-not-is_digit : goal.returns-then-not-is_digit
 returns-then-not-is_digit c =
@@ -66,16 +63,17 @@ loop-i-preserved c =
 
 pub returns : goal.returns
 returns c =
-    let the-args = c.args in
-    let file = the-args.file.now in
+    let file = c.args.file.now in
     let l = c.loop-i in
+    let end : l.i ≡ length file = omega arith in
+    let past : length file ≤ l.i = omega arith in
     record {
       from = omega arith;
       to = omega arith;
-      is = l.invariant.1.1.1.0 ∙ digits_all file l.i c.loop-i-test.false;
+      is = subst (λ (n : ℕ). past_digits (drop c.args.at file) ≡ drop n file) end (l.invariant.1.1.1.0 ∙ digits_all file l.i past);
       value =
           sym
           (l.invariant.1.1.1.1
-          ∙ ap capped (value_all file l.i l.value c.loop-i-test.false)
+          ∙ ap capped (value_all file l.i l.value past)
           ∙ same l.value l.invariant.1.1.0);
     }

@@ -33,18 +33,6 @@ returns-then-pixels-n c =
     let wide : wrong_side c.args.width ≡ false = sym c.wrong_side-2.ensures ∙ c.if-wrong_side-2.false in
     rw (high, wide, ne_eqb _ _ c.if-pixels-n.true)
 
-pub digit_count-width_digits-requires : goal.digit_count-width_digits-requires
-digit_count-width_digits-requires c =
-    let wide : wrong_side c.args.width ≡ false = sym c.wrong_side-2.ensures ∙ c.if-wrong_side-2.false in
-    let the-args = c.args in
-    (side the-args.width wide).1
-
-pub digit_count-height_digits-requires : goal.digit_count-height_digits-requires
-digit_count-height_digits-requires c =
-    let high : wrong_side c.args.height ≡ false = sym c.wrong_side.ensures ∙ c.if-wrong_side.false in
-    let the-args = c.args in
-    (side the-args.height high).1
-
 pub overflow_add-length : goal.overflow_add-length
 overflow_add-length c =
     let a = c.args in
