@@ -86,9 +86,7 @@ pub fn put_values(out: &mut [u8], at: usize, stack: &[i64], depth: usize) -> usi
     ensures { Wrote out.old at (values (stack_of stack.now depth)) result out.new (21 * depth) }
 {
     let mut next = at;
-    let mut i = depth;
-    while 0 < i {
-        i -= 1;
+    for i in (0..depth).rev() {
         next = put_value(out, next, stack[i]);
     }
     next
@@ -100,10 +98,8 @@ fn put_items(out: &mut [u8], at: usize, kinds: &[u8], numbers: &[i64], count: us
     ensures { Wrote out.old at (items (outs_of kinds.now numbers.now count)) result out.new (22 * count) }
 {
     let mut next = at;
-    let mut i: usize = 0;
-    while i < count {
+    for i in 0..count {
         next = put_item(out, next, kinds[i], numbers[i]);
-        i += 1;
     }
     next
 }

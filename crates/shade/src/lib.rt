@@ -39,11 +39,9 @@ fn put_counts(out: &mut [u8], map: &[u32], visits: &[u64], codels: usize, cols: 
     ensures { Wrote out.old 0 (cells_text map.now visits.now cols codels) result out.new (21 * codels) }
 {
     let mut next: usize = 0;
-    let mut i: usize = 0;
-    while i < codels {
+    for i in 0..codels {
         let region = map[i] as usize;
-        i += 1;
-        next = put_codel(out, next, visits[region], i % cols == 0);
+        next = put_codel(out, next, visits[region], (i + 1) % cols == 0);
     }
     next
 }
@@ -109,17 +107,7 @@ fn put_visits(
 fn still(p: Parts) -> Parts
     ensures { result ≡ still p }
 {
-    Parts {
-        height: p.height,
-        width: p.width,
-        codel: p.codel,
-        limit: 0,
-        abstracted: p.abstracted,
-        pixels: p.pixels,
-        settings: p.settings,
-        input: p.input,
-        end: p.end,
-    }
+    Parts { limit: 0, ..p }
 }
 
 // Builds the table of a job's picture, with room for 512 pixels, by a run of no step, and counts the job's own run over it.

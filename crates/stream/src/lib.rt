@@ -48,10 +48,7 @@ fn judge(took: isize, error: i32) -> Step
     if took == 0 {
         return Step::End;
     }
-    if error == EINTR {
-        return Step::Again;
-    }
-    if error == EAGAIN {
+    if error == EINTR || error == EAGAIN {
         return Step::Again;
     }
     Step::Failed
@@ -62,9 +59,7 @@ fn moved(step: Step) -> usize
 {
     match step {
         Step::Moved(n) => n,
-        Step::End => 0,
-        Step::Again => 0,
-        Step::Failed => 0,
+        Step::End | Step::Again | Step::Failed => 0,
     }
 }
 
@@ -78,25 +73,18 @@ fn waited(clock: &impl Clock, step: Step) -> u64
     ensures { result ≡ vain_of step }
 {
     match step {
-        Step::Moved(_) => 0,
-        Step::End => 0,
         Step::Again => {
             pause(clock);
             1
         }
-        Step::Failed => 0,
+        Step::Moved(_) | Step::End | Step::Failed => 0,
     }
 }
 
 fn goes_on(last: Step) -> bool
     ensures { result ≡ goes_on last }
 {
-    match last {
-        Step::Moved(_) => true,
-        Step::End => false,
-        Step::Again => true,
-        Step::Failed => false,
-    }
+    matches!(last, Step::Moved(_) | Step::Again)
 }
 
 // The number of the error that a call left; 0 where it has none.
@@ -167,23 +155,14 @@ pub fn write_whole<W: Write>(clock: &impl Clock, writer: &mut W, buf: &[u8]) -> 
 fn is_end(last: Step) -> bool
     ensures { result ≡ is_end last }
 {
-    match last {
-        Step::Moved(_) => false,
-        Step::End => true,
-        Step::Again => false,
-        Step::Failed => false,
-    }
+    matches!(last, Step::End)
 }
 
 // Whether all of an input was read: the room is full, or the last read found the end.
 pub fn is_whole(stop: Stop, room: usize) -> bool
     ensures { result ≡ whole_input stop room }
 {
-    if stop.done == room {
-        return true;
-    }
-    let last = stop.last;
-    is_end(last)
+    stop.done == room || is_end(stop.last)
 }
 
 // A reader or a writer, with the error of its last call that failed.

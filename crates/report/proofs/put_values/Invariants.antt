@@ -9,6 +9,3 @@ use Rattle.report.proofs.put_values.Given as goal
 abbrev pub invariant-loop-i : goal.invariant-loop-i
 invariant-loop-i l =
     (l.i ≤ l.depth) × Partly l.initial.out l.at (values (stack_of l.stack l.depth)) (values (stack_of l.stack l.i)) (21 * (l.depth - l.i)) l.next l.out
-
-abbrev pub decreases-loop-i : goal.decreases-loop-i
-decreases-loop-i l = l.i
