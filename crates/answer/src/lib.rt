@@ -61,7 +61,7 @@ fn put_ended(
     let mut label = [0u8; 22];
     let n = label_region(rows, at.region as usize, &mut label);
     let f = Figures {
-        status: machine::status(stop),
+        status: u64::from(stop),
         steps: at.steps,
         dp: pointers.dp as u64,
         cc: pointers.cc as u64,

@@ -11,7 +11,7 @@ ghost use Rattle.interpreter.specs.Moving.{Gone, Stepped};
 
 use crate::State;
 use flow::PointerState;
-use machine::{Stop, Terms};
+use machine::{Op, Stop, Terms};
 use table::{Field, LOST_SLIDE, exit_cell, instruction_of, row_cell, state_of, target_of};
 
 // What a step comes to that is made: the place that it reaches, and the exit by which it does.
@@ -61,7 +61,7 @@ fn go_through(
     let core = at.core;
     let target = target_of(w);
     let p = PointerState::of_number(state_of(w));
-    let op = machine::op_numbered(instruction_of(w));
+    let op = Op::from(instruction_of(w));
     let next = machine::exec(
         op,
         size,

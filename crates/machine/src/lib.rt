@@ -165,42 +165,46 @@ impl Core {
 }
 
 // The status of a stop (rules 11.1 to 11.6).
-pub fn status(stop: Stop) -> u64
-    ensures { result ≡ status_of stop }
-{
-    match stop {
-        Stop::Completed => 1,
-        Stop::MaxSteps => 2,
-        Stop::NeedsInput => 3,
-        Stop::StackFull => 4,
-        Stop::OutputFull => 5,
-        Stop::BadInput => 6,
+impl From<Stop> for u64 {
+    ghost from_gives = { λ stop status. status ≡ status_of stop };
+
+    fn from(stop: Stop) -> u64 {
+        match stop {
+            Stop::Completed => 1,
+            Stop::MaxSteps => 2,
+            Stop::NeedsInput => 3,
+            Stop::StackFull => 4,
+            Stop::OutputFull => 5,
+            Stop::BadInput => 6,
+        }
     }
 }
 
 // The instruction with the number n, 1 to 17 (rule 1.5); every other number is none.
-pub fn op_numbered(n: u32) -> Op
-    ensures { result ≡ op_numbered n }
-{
-    match n {
-        1 => Op::Push,
-        2 => Op::Pop,
-        3 => Op::Pair(Pairing::Add),
-        4 => Op::Pair(Pairing::Sub),
-        5 => Op::Pair(Pairing::Mul),
-        6 => Op::Pair(Pairing::Div),
-        7 => Op::Pair(Pairing::Mod),
-        8 => Op::Not,
-        9 => Op::Pair(Pairing::Gt),
-        10 => Op::Ptr,
-        11 => Op::Swi,
-        12 => Op::Dup,
-        13 => Op::Roll,
-        14 => Op::CharIn,
-        15 => Op::CharOut,
-        16 => Op::IntIn,
-        17 => Op::IntOut,
-        _ => Op::Nothing,
+impl From<u32> for Op {
+    ghost from_gives = { λ n op. op ≡ op_numbered n };
+
+    fn from(n: u32) -> Op {
+        match n {
+            1 => Op::Push,
+            2 => Op::Pop,
+            3 => Op::Pair(Pairing::Add),
+            4 => Op::Pair(Pairing::Sub),
+            5 => Op::Pair(Pairing::Mul),
+            6 => Op::Pair(Pairing::Div),
+            7 => Op::Pair(Pairing::Mod),
+            8 => Op::Not,
+            9 => Op::Pair(Pairing::Gt),
+            10 => Op::Ptr,
+            11 => Op::Swi,
+            12 => Op::Dup,
+            13 => Op::Roll,
+            14 => Op::CharIn,
+            15 => Op::CharOut,
+            16 => Op::IntIn,
+            17 => Op::IntOut,
+            _ => Op::Nothing,
+        }
     }
 }
 

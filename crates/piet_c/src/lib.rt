@@ -51,7 +51,7 @@ fn put_ended(answer: &mut [u64], e: Ended)
     let pointers = core.pointers;
     let reading = core.reading;
     let skips = reading.skips;
-    answer[0] = machine::status(stop);
+    answer[0] = u64::from(stop);
     answer[1] = at.steps;
     answer[2] = at.region as u64;
     answer[3] = pointers.dp as u64;

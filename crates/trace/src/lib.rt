@@ -20,7 +20,7 @@ use answer::{label_region, run_parts};
 use base::edition::Edition;
 use interpreter::{Ended, State, begin, step};
 use job::Parts;
-use machine::{Terms, op_numbered};
+use machine::{Op, Terms};
 use piet::run_picture::Pictured;
 use report::put_refusal;
 use table::instruction_of;
@@ -80,7 +80,7 @@ fn put_step(
     let next = moved.next;
     let mut label = [0u8; 22];
     let named = label_region(rows, at.region as usize, &mut label);
-    let op = op_numbered(instruction_of(moved.by));
+    let op = Op::from(instruction_of(moved.by));
     let after = put_move(
         out,
         end,

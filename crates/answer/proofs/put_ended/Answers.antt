@@ -13,4 +13,4 @@ put_result-requires c = part_fits c.label_region-n.ensures.0 c.label_region-n.en
 
 pub returns : goal.returns
 returns c =
-    rw (c.status.ensures, c.label_region-n.ensures.0.is) at c.put_result.ensures
+    rw (c.from.ensures, c.label_region-n.ensures.0.is) at c.put_result.ensures

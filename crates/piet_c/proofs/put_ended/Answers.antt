@@ -44,4 +44,4 @@ shape_of-answer c = simp length-set
 pub returns : goal.returns
 unfolding cells
 returns c =
-    rw c.status.ensures (cells_put (result_of c.args.e) c.args.answer.now c.requires)
+    rw c.from.ensures (cells_put (result_of c.args.e) c.args.answer.now c.requires)

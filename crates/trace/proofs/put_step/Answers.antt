@@ -78,6 +78,6 @@ returns c =
     record {
       stepped = stepped c.args.n c.args.rows.now c.args.exits.now what held c.args.at left gone;
       line =
-          rw (line_of c.args.n c.args.rows.now c.args.exits.now what held c.args.at left gone c.label_region-named.ensures.0.is (c.op_numbered-op.ensures ∙ ap op_numbered c.instruction_of.ensures) (part_is c.put_stack-size.ensures))
+          rw (line_of c.args.n c.args.rows.now c.args.exits.now what held c.args.at left gone c.label_region-named.ensures.0.is (c.from-op.ensures ∙ ap op_numbered c.instruction_of.ensures) (part_is c.put_stack-size.ensures))
           at c.put_move-after.ensures;
     }

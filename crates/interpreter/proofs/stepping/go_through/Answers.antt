@@ -28,7 +28,7 @@ returns c =
     let left : Slices = slices c.exec.new.stack c.exec.new.kinds c.exec.new.values in
     let went : (r : Result Core Stop) → c.exec.result ≡ r → Execs (exec what (size_of c.args.rows.now c.args.at.region) (op_of c.args.w)) held (at_pointers (pointers_of c.args.w) c.args.at.core) left r = λ r q. subst (Execs _ _ _ _) q
     (rw (
-      c.op_numbered-op.ensures,
+      c.from-op.ensures,
       c.at_pointers.ensures,
       c.of_number-p.ensures,
       c.instruction_of.ensures,
@@ -49,7 +49,7 @@ returns-in_err-next c =
     let left : Slices = slices c.exec.new.stack c.exec.new.kinds c.exec.new.values in
     let went : (r : Result Core Stop) → c.exec.result ≡ r → Execs (exec what (size_of c.args.rows.now c.args.at.region) (op_of c.args.w)) held (at_pointers (pointers_of c.args.w) c.args.at.core) left r = λ r q. subst (Execs _ _ _ _) q
     (rw (
-      c.op_numbered-op.ensures,
+      c.from-op.ensures,
       c.at_pointers.ensures,
       c.of_number-p.ensures,
       c.instruction_of.ensures,

@@ -1,6 +1,6 @@
--- `machine::status` meets its contract. Assumes nothing.
+-- `u64::from` of a `Stop` meets its contract. Assumes nothing.
 use Rattle.machine.specs.Machine.{status_of}
-use Rattle.machine.proofs.status.Goals as goal
+use Rattle.machine.proofs.U64FromStop.from.Goals as goal
 
 pub returns-in-Completed : goal.returns-in-Completed
 unfolding status_of
