@@ -1,7 +1,7 @@
 -- Two outcomes that a contract allows for one input are equal, answer and cells, for each public function:
 --     exec                     execs_only
 --     int_out, char_out        puts_only
---     op_numbered, at_pointers    `equation_only` of base's proofs/Only.antt
+--     `Op::from`, at_pointers  `equation_only` of base's proofs/Only.antt
 -- A call leaves the length of a lent slice as it is. Assumes nothing.
 use mathlib.Core.Path.{◌≡◌, ◌∙◌, sym, ap, refl}
 use mathlib.Core.List.{List, [], ◌∷◌, ◌++◌}
