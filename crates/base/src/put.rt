@@ -1,4 +1,6 @@
-// Text in a lent slice of bytes. Each writer takes the index to begin at and returns the one after.
+// Text in a lent slice of bytes. Each writer takes the index to begin at and returns the one after. A struct of the two would
+// be no plainer, here and in the crates that write with these: it would hold a `&mut`, and each function would promise besides
+// that it holds the same slice, with as many bytes. `String` needs a heap.
 ghost use Rattle.std.specs.Prelude.{◌∷◌, [], ◌+◌, ◌<◌, length};
 ghost use Rattle.base.specs.Lent.{Room, Put};
 ghost use Rattle.base.specs.Text.{decimal};

@@ -1,4 +1,5 @@
 // The settings for unknown pixels: 1 refuses them, 2 makes them white, 3 black; 0, the default, acts as 2 (rule 1.2).
+// A number and no enum: `substitute` and `colour_under` answer for every number, and an enum would ask more.
 ghost use Rattle.std.specs.Prelude.{◌≡◌};
 ghost use Rattle.colour.specs.Setting.{no_setting, refuses, substitute};
 

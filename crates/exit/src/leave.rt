@@ -1,4 +1,5 @@
-// The codel to leave each region by, for the eight pointer states (rule 4.2; `possible_exits`).
+// The codel to leave each region by, for the eight pointer states (rule 4.2; `possible_exits`). The grid is given by its sides:
+// a `CodelGrid` would ask more of a caller, for colours that nothing here looks at.
 ghost use Rattle.std.specs.Prelude.{◌≡◌, ◌*◌, ◌<◌, length, replicate};
 ghost use Rattle.flow.specs.Pointer.{Valid};
 ghost use Rattle.exit.specs.Leaving.{reach, beats};

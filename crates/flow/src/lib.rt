@@ -5,7 +5,8 @@ ghost use Rattle.std.specs.Prelude.{◌≡◌, ◌<◌};
 ghost use Rattle.flow.specs.Pointer.{Valid, rotated, switched, turned_once, offset_of, attempt_of, state_number, of_number};
 ghost use Rattle.flow.specs.Neighbour.{ahead_of};
 
-// The pointer pair, by value: dp right, down, left, up 0 to 3; cc left, right 0, 1.
+// The pointer pair, by value: dp right, down, left, up 0 to 3; cc left, right 0, 1. Numbers, as C has them, to turn by sums. That
+// they are in these bounds is asked where it matters: `Core::at_pointers` takes any pair.
 #[derive(Clone, Copy)]
 pub struct PointerState {
     pub dp: u8,

@@ -1,4 +1,5 @@
-// One instruction over the lent stack and outputs.
+// One instruction over the lent stack and outputs. The three slices come from C one by one and stay apart, since a struct that
+// holds a `&mut` has each function promise that it holds the same one.
 #![tactic(auto)]
 
 pub mod output;
@@ -304,7 +305,8 @@ fn int_in(terms: Terms, input: &[u8], stack: &mut [i64], at: Core) -> Result<Cor
     take(stack, at.at_skips(skips.after(taken)), taken)
 }
 
-// One instruction, with the size of the block just left.
+// One instruction, with the size of the block just left. A match: an instruction comes as a number of a table, which may be
+// anyone's, and no function does.
 pub fn exec(
     op: Op,
     size: u32,

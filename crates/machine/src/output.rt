@@ -4,7 +4,7 @@ ghost use Rattle.std.specs.Prelude.{◌∷◌, [], ◌<◌, length};
 ghost use Rattle.stack.specs.Stack.{Lies};
 ghost use Rattle.machine.specs.Output.{Holds, Writes, Puts, int_out, char_out};
 
-// One output more, where there is room.
+// One output more, where there is room. Its kind is a number, as C has it in the cell.
 fn emit(kinds: &mut [u8], values: &mut [i64], n: usize, kind: u8, v: i64) -> usize
     requires holds { Holds kinds.old values.old n }
     requires n_in_bounds { (n < length kinds.old) × (n < length values.old) }

@@ -16,7 +16,7 @@ pub fn codel_colour(grid: CodelGrid, i: usize) -> u8
 
 // The codel one step from i, toward 0 right, 1 down, 2 left, 3 up (`adjacencies` has all four). The
 // count of codels stands for outside: no codel has that index, so the caller's own test for inside
-// finds it.
+// finds it. The shape alone: a `CodelGrid` would ask more of callers.
 pub fn neighbour(s: Shape, i: usize, way: usize) -> usize
     requires cols_bound { s.rows * s.cols ≤ 65536 }
     requires i_bound { i < s.rows * s.cols }

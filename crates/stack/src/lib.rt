@@ -1,5 +1,6 @@
 // The stack in a lent slice of cells: the bottom is cell 0, and the cells past the depth hold 0. Each function takes the
-// depth and returns the new one.
+// depth and returns the new one. A struct of the two would hold a `&mut`, and each function would promise besides that it
+// holds the same slice, with as many cells; `Vec` needs a heap.
 #![tactic(auto)]
 
 ghost use Rattle.std.specs.Prelude.{◌≡◌, ◌∷◌, ◌<◌, ◌≤◌, length, drop};

@@ -46,6 +46,7 @@ pub fn int_in(input: &[u8], at: usize) -> Taken
     let end = line_end(input, at);
     let line = &input[at..end];
     if is_utf8(line) {
+        // a match, since both are used: the value, and the reason
         match parse(trim(line)) {
             Ok(value) => Taken::Push { value, next: end },
             Err(why) => Taken::Skip { next: end, why },

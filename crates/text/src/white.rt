@@ -45,7 +45,8 @@ fn white_front(line: &[u8]) -> usize
     i
 }
 
-// Where the last character before `end` begins, back over continuation bytes.
+// Where the last character before `end` begins, back over continuation bytes. The index is what is looked for: a `for` would need a
+// second one.
 fn last_start(s: &[u8], end: usize) -> usize
     requires { (0 < end) × (end ≤ length s.now) }
     ensures { LastStart s.now end result }
