@@ -13,29 +13,29 @@ use Rattle.text.specs.Range.{within}
 use Rattle.text.proofs.RangeLaws.{below}
 use Rattle.text.proofs.Utf8Laws.{scalar_bounds, scalar_high}
 use Rattle.report.specs.Text.{int, value, item}
-use Rattle.telling.specs.declared.outputs.Character.TheVariants.{Scalar, Other}
+use Rattle.std.specs.Prelude.{Some, None}
 use Rattle.telling.specs.Outputs.{control, is_char, is_shown, emit_text, quoted, shown}
 use Rattle.telling.specs.Bounds.{Names}
 
 -- which character a value is
-pub no_char_below : {v : ℤ} → Neg v → Names v Other
+pub no_char_below : {v : ℤ} → Neg v → Names v None
 unfolding Names
 no_char_below (neg n h) = refl
 
-pub no_char_above : {v : ℤ} {n : ℕ} → NonNeg v → n ≡ nat_abs v → 0x10FFFF < n → Names v Other
+pub no_char_above : {v : ℤ} {n : ℕ} → NonNeg v → n ≡ nat_abs v → 0x10FFFF < n → Names v None
 unfolding Names
 no_char_above (nonneg m h) e k = scalar_high m (omega arith) ∙ le-ltb m 0x110000 (omega arith)
 
-pub no_scalar : {v : ℤ} {n : ℕ} → NonNeg v → n ≡ nat_abs v → scalar n ≡ false → Names v Other
+pub no_scalar : {v : ℤ} {n : ℕ} → NonNeg v → n ≡ nat_abs v → scalar n ≡ false → Names v None
 unfolding Names
 no_scalar (nonneg m h) e k = ap scalar (sym e) ∙ k
 
-pub a_scalar : {v : ℤ} {n : ℕ} → NonNeg v → n ≡ nat_abs v → scalar n ≡ true → Names v (Scalar n)
+pub a_scalar : {v : ℤ} {n : ℕ} → NonNeg v → n ≡ nat_abs v → scalar n ≡ true → Names v (Some n)
 unfolding Names
 a_scalar (nonneg m h) e k = (ap pos (sym e), k)
 
 -- a scalar is below 0x110000
-pub named_small : (v : ℤ) (c : ℕ) → Names v (Scalar c) → c < 0x110000
+pub named_small : (v : ℤ) (c : ℕ) → Names v (Some c) → c < 0x110000
 unfolding Names
 named_small v c h = (scalar_bounds c h.1).0
 
@@ -56,11 +56,11 @@ module _ (kind : ℕ) (v : ℤ) where
   unfolding emit_text
   emit_number h = rw (ne_eqb kind 1 h)
 
-  pub emit_none : kind ≡ 1 → Names v Other → emit_text kind v ≡ []
+  pub emit_none : kind ≡ 1 → Names v None → emit_text kind v ≡ []
   unfolding emit_text Names
   emit_none e h = rw (eq-eqb kind 1 e, h)
 
-  pub emit_char : (c : ℕ) → kind ≡ 1 → Names v (Scalar c) → emit_text kind v ≡ encode c
+  pub emit_char : (c : ℕ) → kind ≡ 1 → Names v (Some c) → emit_text kind v ≡ encode c
   unfolding emit_text Names
   emit_char c e h = rw (eq-eqb kind 1 e, h.0, h.1)
 
@@ -68,11 +68,11 @@ module _ (kind : ℕ) (v : ℤ) where
   unfolding shown
   shown_number h = rw (ne_eqb kind 1 h)
 
-  pub shown_char : (c : ℕ) → kind ≡ 1 → Names v (Scalar c) → control c ≡ false → shown kind v ≡ quoted (encode c)
+  pub shown_char : (c : ℕ) → kind ≡ 1 → Names v (Some c) → control c ≡ false → shown kind v ≡ quoted (encode c)
   unfolding shown Names
   shown_char c e h k = rw (eq-eqb kind 1 e, h.0, h.1, k)
 
-  pub shown_control : (c : ℕ) → kind ≡ 1 → Names v (Scalar c) → control c ≡ true → shown kind v ≡ item 1 v
+  pub shown_control : (c : ℕ) → kind ≡ 1 → Names v (Some c) → control c ≡ true → shown kind v ≡ item 1 v
   unfolding shown Names
   shown_control c e h k = rw (eq-eqb kind 1 e, h.0, h.1, k)
 
@@ -80,6 +80,6 @@ hidden_other : (v : ℤ) → is_char v ≡ false → is_shown v ≡ false
 hidden_other (pos c) e = rw e
 hidden_other (negsuc n) e = refl
 
-pub shown_other : (kind : ℕ) (v : ℤ) → kind ≡ 1 → Names v Other → shown kind v ≡ item 1 v
+pub shown_other : (kind : ℕ) (v : ℤ) → kind ≡ 1 → Names v None → shown kind v ≡ item 1 v
 unfolding shown Names
 shown_other kind v e h = rw (eq-eqb kind 1 e, hidden_other v h)

@@ -3,8 +3,7 @@ use Rattle.std.specs.Prelude.{◌≡◌, true, false, ℕ, ◌≤◌, ℤ, pos}
 use Rattle.flow.specs.Pointer.{Valid}
 use Rattle.text.specs.Utf8.{scalar}
 use Rattle.machine.specs.declared.Core.{Core}
-use Rattle.telling.specs.declared.outputs.Character.{Character}
-use Rattle.telling.specs.declared.outputs.Character.TheVariants.{Scalar, Other}
+use Rattle.std.specs.Prelude.{Option, Some, None}
 use Rattle.telling.specs.Outputs.{is_char}
 
 -- what is told of lies within the lent slices, and its pointers are a state
@@ -15,6 +14,6 @@ pub record Inside (core : Core) (cells kinds values : ℕ) : Type 0 where
   pub valid : Valid core.pointers
 
 -- which character a value is, if it is one
-unfoldable pub Names : ℤ → Character → Type 0
-Names v (Scalar c) = (v ≡ pos c) × (scalar c ≡ true)
-Names v Other = is_char v ≡ false
+unfoldable pub Names : ℤ → Option ℕ → Type 0
+Names v (Some c) = (v ≡ pos c) × (scalar c ≡ true)
+Names v None = is_char v ≡ false

@@ -13,13 +13,6 @@ use text::utf8::is_scalar;
 // The kind of an output that is a character.
 const CHARACTER: u8 = 1;
 
-// A value as a character: the Unicode scalar that it is, or none.
-#[derive(Clone, Copy)]
-pub(crate) enum Character {
-    Scalar(u32),
-    Other,
-}
-
 // One byte.
 fn put_byte(out: &mut [u8], at: usize, b: u32) -> usize
     requires { (b < 256) × (at + 1 ≤ length out.old) }
@@ -76,22 +69,22 @@ fn put_scalar(out: &mut [u8], at: usize, c: u32) -> usize
     put_widest(out, at, c)
 }
 
-// Which character a value is; a number below 0 or past the last code point is none.
-fn character_of(v: i64) -> Character
+// Which character a value is, if any: a Unicode scalar; a number below 0 or past the last code point is none.
+fn character_of(v: i64) -> Option<u32>
     ensures { Names v result }
 {
     if v < 0 {
-        return Character::Other;
+        return None;
     }
     let n = word::abs(v);
     if 0x10FFFF < n {
-        return Character::Other;
+        return None;
     }
     let c = n as u32;
     if is_scalar(c) {
-        return Character::Scalar(c);
+        return Some(c);
     }
-    Character::Other
+    None
 }
 
 // A control character would move a terminal's cursor.
@@ -115,7 +108,7 @@ fn put_emit(out: &mut [u8], at: usize, kind: u8, v: i64) -> usize
     if kind != CHARACTER {
         return put_int(out, at, v);
     }
-    let Character::Scalar(c) = character_of(v) else {
+    let Some(c) = character_of(v) else {
         return at;
     };
     put_scalar(out, at, c)
@@ -133,10 +126,8 @@ pub(crate) fn put_outputs(
     ensures { Wrote out.old at (output_text (outs_of kinds.now values.now count)) result out.new (20 * count) }
 {
     let mut next = at;
-    let mut i: usize = 0;
-    while i < count {
+    for i in 0..count {
         next = put_emit(out, next, kinds[i], values[i]);
-        i += 1;
     }
     next
 }
@@ -159,7 +150,7 @@ fn put_shown(out: &mut [u8], at: usize, kind: u8, v: i64) -> usize
     if kind != CHARACTER {
         return put_value(out, at, v);
     }
-    let Character::Scalar(c) = character_of(v) else {
+    let Some(c) = character_of(v) else {
         return put_item(out, at, CHARACTER, v);
     };
     if is_control(c) {

@@ -7,7 +7,7 @@ use Rattle.report.specs.Text.{int}
 use Rattle.report.proofs.TextLaws.{int_long}
 use Rattle.report.proofs.Writing.{put_none, wrote, widen, room_of_lem}
 use Rattle.telling.specs.Bounds.{Names}
-use Rattle.telling.specs.declared.outputs.Character.TheVariants.{Scalar, Other}
+use Rattle.std.specs.Prelude.{Some, None}
 use Rattle.telling.proofs.CharLaws.{named_small, emit_number, emit_none, emit_char}
 use Rattle.telling.proofs.outputs.put_emit.Goals as goal
 
@@ -24,19 +24,19 @@ returns-then-kind-ne-CHARACTER c =
 
 pub returns-in_default : goal.returns-in_default
 returns-in_default c =
-    let unnamed : Names c.args.v Other =
+    let unnamed : Names c.args.v None =
     rw (to_z-of_z w64 c.args.v c.ranges.v, c.in_default.is) at c.character_of.ensures in
     rw (emit_none c.args.kind c.args.v c.if-kind-ne-CHARACTER.false unnamed) (wrote (put_none _ _) 20 (omega arith))
 
 pub put_scalar-requires : goal.put_scalar-requires
 put_scalar-requires c =
-    let named : Names c.args.v (Scalar c.in-Scalar.c) =
-    rw (to_z-of_z w64 c.args.v c.ranges.v, c.in-Scalar.is) at c.character_of.ensures in
+    let named : Names c.args.v (Some c.in-Some.c) =
+    rw (to_z-of_z w64 c.args.v c.ranges.v, c.in-Some.is) at c.character_of.ensures in
     let h = c.requires in
-    (named_small c.args.v c.in-Scalar.c named, omega arith)
+    (named_small c.args.v c.in-Some.c named, omega arith)
 
 pub returns : goal.returns
 returns c =
-    let named : Names c.args.v (Scalar c.in-Scalar.c) =
-    rw (to_z-of_z w64 c.args.v c.ranges.v, c.in-Scalar.is) at c.character_of.ensures in
-    rw (emit_char c.args.kind c.args.v c.in-Scalar.c c.if-kind-ne-CHARACTER.false named) (widen c.put_scalar.ensures 20 (omega arith))
+    let named : Names c.args.v (Some c.in-Some.c) =
+    rw (to_z-of_z w64 c.args.v c.ranges.v, c.in-Some.is) at c.character_of.ensures in
+    rw (emit_char c.args.kind c.args.v c.in-Some.c c.if-kind-ne-CHARACTER.false named) (widen c.put_scalar.ensures 20 (omega arith))
