@@ -1,43 +1,19 @@
 -- Laws of pixels that are all alike. Assumes nothing.
 use mathlib.Core.Path.{◌≡◌, ◌∙◌, sym, ap}
-use mathlib.Core.Bool.{Bool, true, false}
 use mathlib.Core.List.{List, ◌++◌, map}
-use mathlib.Core.Logic.{by_cases}
 use Prim.Native.Nat.{ℕ, zero, suc, ◌+◌, ◌*◌, ◌-◌, ◌<◌, ◌≤◌}
-use native.Mathlib.Decide.{dec_lt}
 use native.Mathlib.Nat.{add-zero}
 use native.Mathlib.Omega.{arith}
 use lib.ListN.{length, get_or, take, drop, set, length-append, length-drop, length-map, get_or-append}
 use lib.Seq.{length-take-le, get_or-take}
 use Rattle.std.specs.Prelude.{is_some, None}
 use Rattle.colour.specs.Classify.{found, known_first, colour_under}
-use Rattle.colour.specs.Stretch.{RepeatedBytes, Repeats}
-use Rattle.base.specs.Decides.{Decides}
+use Rattle.colour.specs.Stretch.{Repeats}
 use Rattle.base.specs.Lent.{filled}
 use Rattle.base.proofs.LentLaws.{map_at, write_turn}
 use Rattle.base.proofs.Over.{filled_none, filled_turn}
 use Rattle.colour.proofs.ClassifyLaws.{found_at, length_found}
 use Rattle.colour.proofs.FirstUnknown.{known_before, goes_on}
-
-pub none_yet : (p : List ℕ) (from : ℕ) → RepeatedBytes p from from
-none_yet p from k h l = absurd (omega arith)
-
-module _ (p : List ℕ) (from j : ℕ) (begun : from ≤ j) (past : 3 ≤ j) where
-  -- one byte more that stands three places before too
-  one_more : get_or p j 0 ≡ get_or p (j - 3) 0 → RepeatedBytes p from j → RepeatedBytes p from (j + 1)
-  one_more e r k h l = by_cases (dec_lt k j) (λ s. r k h s) (λ s. let q : k ≡ j = omega arith in rw q (past, e))
-
-  -- and one that does not
-  pub differs : (get_or p j 0 ≡ get_or p (j - 3) 0 → ⊥) → RepeatedBytes p from (j + 1) → ⊥
-  differs d r = d (r j begun (omega arith)).1
-
-  fewer : RepeatedBytes p from (j + 1) → RepeatedBytes p from j
-  fewer r k h l = r k h (omega arith)
-
-  -- the test after one byte more
-  pub still : (b : Bool) → get_or p j 0 ≡ get_or p (j - 3) 0 → Decides (RepeatedBytes p from j) b → Decides (RepeatedBytes p from (j + 1)) b
-  still true e r = one_more e r
-  still false e n = λ r. n (fewer r)
 
 -- one value written over the cells of l in which w has it
 written_through : (w l : List ℕ) (i v m : ℕ) → i + m ≤ length w → length w ≤ length l → ((k : ℕ) → k < m → v ≡ get_or w (i + k) 0)

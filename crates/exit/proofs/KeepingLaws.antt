@@ -6,7 +6,7 @@ use Prim.Native.Nat.{ℕ, ◌+◌, ◌<◌}
 use native.Mathlib.Omega.{arith}
 use borrow.Author.Tests.{eqb-true, eqb-false, eq-eqb, ne_eqb}
 use lib.Dec.{eqb}
-use lib.ListN.{length, get_or, set, length-set}
+use lib.ListN.{length, get_or, length-set}
 use lib.Seq.{get_or-set_same, get_or-set_other}
 use Rattle.base.proofs.Tests.{by_size}
 use Rattle.flow.specs.Pointer.{Valid, state_number, of_number}
@@ -154,11 +154,6 @@ module _ (map best : List ℕ) (rows cols : ℕ) (s : PointerState) (i : ℕ) (L
           subst (λ (x : ℕ). x < length map)
           (sym (get_or-set_other best (cell_of map s i) k (better map rows cols s i held) 0 (eqb-false k (cell_of map s i) e)))
           (L.codels k l)
-
--- what the code stores, of values that were worked out
-pub stored : (map best : List ℕ) (rows cols : ℕ) (s : PointerState) (i : ℕ) {cell j v : ℕ} → cell ≡ cell_of map s i → j ≡ get_or best cell 0
-    → v ≡ better map rows cols s i j → set best cell v ≡ kept map best rows cols s i
-stored map best rows cols s i e f g = rw (g, f, e)
 
 -- ---- one state more
 

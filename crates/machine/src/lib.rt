@@ -5,7 +5,7 @@
 pub mod output;
 
 ghost use Rattle.std.specs.Prelude.{◌≡◌, ℤ};
-ghost use Rattle.flow.specs.Pointer.{Valid, rotated, switched};
+ghost use Rattle.flow.specs.Pointer.{Valid};
 ghost use Rattle.text.specs.Input.{char_of, int_of, whole_line, char_next};
 ghost use Rattle.stack.specs.Stack.{Lies};
 ghost use Rattle.machine.specs.Counts.{Countable, one_more, counted};

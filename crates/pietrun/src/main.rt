@@ -22,6 +22,9 @@ impl Program for Answer {
     ghost cut = { λ job before r after. cut_printed job };
 }
 
+// The room of the longest text.
+const ROOM: usize = 16384;
+
 fn main(rt: HostRuntime) -> ExitCode {
-    run::<Answer, _, _, 16384>(&rt, "pietrun", rt.stdin(), rt.stdout())
+    run::<Answer, _, _, ROOM>(&rt, "pietrun", rt.stdin(), rt.stdout())
 }

@@ -22,6 +22,9 @@ impl Program for Shade {
     ghost cut = { λ job before r after. cut_printed job };
 }
 
+// The room of the longest text.
+const ROOM: usize = 16384;
+
 fn main(rt: HostRuntime) -> ExitCode {
-    run::<Shade, _, _, 16384>(&rt, "pietshade", rt.stdin(), rt.stdout())
+    run::<Shade, _, _, ROOM>(&rt, "pietshade", rt.stdin(), rt.stdout())
 }

@@ -22,6 +22,9 @@ impl Program for Trace {
     ghost cut = { λ job before r after. cut_printed job };
 }
 
+// The room of the longest text (rule 18.4).
+const ROOM: usize = 524288;
+
 fn main(rt: HostRuntime) -> ExitCode {
-    run::<Trace, _, _, 524288>(&rt, "piettrace", rt.stdin(), rt.stdout())
+    run::<Trace, _, _, ROOM>(&rt, "piettrace", rt.stdin(), rt.stdout())
 }

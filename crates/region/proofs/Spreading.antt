@@ -2,33 +2,18 @@
 --     spread_none    before the first way
 --     spread_more    one way more, by a visit of the codel that way
 -- Assumes nothing.
-use mathlib.Core.Path.{◌≡◌, refl, sym, ap, ◌∙◌, subst}
+use mathlib.Core.Path.{◌≡◌, sym, ap, ◌∙◌, subst}
 use mathlib.Core.Logic.{◌≢◌, ◌⊎◌, inl, inr, ⊎_elim, by_cases}
 use mathlib.Core.List.{List}
 use Prim.Native.Nat.{ℕ, ◌+◌, ◌≤◌, ◌<◌}
-use native.Mathlib.Nat.{le_refl}
 use native.Mathlib.Decide.{ℕ_discrete, dec_lt}
 use native.Mathlib.Omega.{arith}
 use lib.ListN.{length, get_or, set, length-set}
 use lib.Seq.{get_or-set_same, get_or-set_other, drop-set-lt}
 use Rattle.region.specs.Grid.{Grid, count, Toward, Neighbour}
-use Rattle.region.specs.Steps.{unnumbered, vacant, Visit, pushed, kept, New, Spread}
+use Rattle.region.specs.Steps.{unnumbered, Visit, pushed, kept, New, Spread}
 use Rattle.region.proofs.Cells.{stored}
 use Rattle.region.proofs.TallyLaws.{tally_set, tally_some}
-
-pub spread_none : {g : Grid} {k i : ℕ} {m w : List ℕ} {t : ℕ} → vacant (count g) m + t ≤ count g → Spread g k i 0 m w t m w t
-spread_none {t = t} room = record {
-  on = le_refl t;
-  cells = λ j h. inl refl;
-  old = λ q h. refl;
-  new = λ q a b. absurd (omega arith);
-  reach = λ e h. absurd (omega arith);
-  room = room;
-  map_length = refl;
-  work_length = refl;
-  map_rest = refl;
-  work_rest = refl;
-}
 
 module _ {g : Grid} {k i d : ℕ} {m w : List ℕ} {t : ℕ} {m' w' : List ℕ} {t' j : ℕ} (s : Spread g k i d m w t m' w' t') (n : Neighbour g.rows g.cols d i j) where
   -- nothing to number that way

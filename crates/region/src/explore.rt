@@ -11,7 +11,7 @@ use picture::grid::CodelGrid;
 // What a codel without a number has in the map.
 pub const MARK: u32 = 65536;
 
-// Numbers codel j and puts it at the queue's tail, where it is inside, has no number and has the
+// Numbers codel j and puts it at the queue's tail, where it is inside, has no number and has
 // this colour. Returns the new tail.
 fn visit(
     grid: CodelGrid,

@@ -1,7 +1,7 @@
 // The records of the replay programs, and how their cells are printed.
 #![tactic(auto)]
 
-ghost use Rattle.std.specs.Prelude.{◌<◌, ◌≤◌};
+ghost use Rattle.std.specs.Prelude.{◌≡◌, ◌+◌, ◌*◌, ◌<◌, ◌≤◌};
 
 use std::cmp::min;
 use std::fmt::Display;
@@ -10,14 +10,16 @@ use std::io::{BufWriter, Read, Write};
 
 // Two bytes as a number, the lower first.
 pub fn pair(low: u8, high: u8) -> usize
-    ensures { result < 65536 }
+    ensures same { result ≡ low + 256 * high }
+    ensures small { result < 65536 }
 {
-    usize::from(u16::from_le_bytes([low, high]))
+    usize::from(low) + 256 * usize::from(high)
 }
 
 // How many pixels a picture of such sides has.
 pub fn area(height: u8, width: u8) -> usize
-    ensures { result ≤ 65025 }
+    ensures same { result ≡ height * width }
+    ensures small { result ≤ 65025 }
 {
     usize::from(height) * usize::from(width)
 }

@@ -208,14 +208,6 @@ pub record Gathers (s : List ℕ) (at high i cp : ℕ) : Type 0 where
   pub tails : Tails s at i
   pub is : cp ≡ bits s at high i
 
-pub gathers_none : (s : List ℕ) (at high : ℕ) → Gathers s at high 0 high
-gathers_none s at high = record { tails = tt; is = refl }
-
-pub gathers_more : (s : List ℕ) (at high i cp x : ℕ) → Gathers s at high i cp → Carries s (at + (i + 1)) x → Gathers s at high (i + 1) (cp * 64 + x)
-gathers_more s at high i cp x g k =
-    let l = rw (add-one i) at k in
-    rw (add-one i) (record { tails = (g.tails, (l.inside, (omega arith, omega arith))); is = omega (arith, g.is) })
-
 module _ (s : List ℕ) (at high : ℕ) where
   -- the number stays small while a byte is to come
   bits_small : (i cp : ℕ) → i ≤ 2 → high < 32 → Gathers s at high i cp → cp < 0x20000

@@ -16,15 +16,15 @@ use Rattle.base.specs.declared.edition.Edition.{Edition}
 use Rattle.base.specs.declared.edition.Edition.TheVariants.{Rust, Page}
 use Rattle.base.proofs.Clash.{clash}
 use Rattle.text.specs.Line.{line_at, line_end}
-use Rattle.text.specs.Utf8.{encode, encodes, Utf8, Valid, IsChar}
+use Rattle.text.specs.Utf8.{encode, encodes, Utf8, IsChar}
 use Rattle.text.specs.Trim.{Trims}
 use Rattle.text.specs.Number.{parsed}
-use Rattle.text.specs.Input.{char_of, remains, int_of, push_or_skip, Next, whole_line, after_char, char_next, Takes, reads, bad}
+use Rattle.text.specs.Input.{char_of, remains, int_of, push_or_skip, Next, whole_line, after_char, char_next, Takes, reads}
 use Rattle.text.specs.Number.{Number}
 use Rattle.std.specs.Prelude.{Ok, Err}
 use Rattle.text.specs.declared.number.Reason.{Reason}
 use Rattle.text.specs.declared.number.Reason.TheVariants.{Ended}
-use Rattle.text.specs.declared.input.Taken.TheVariants.{Push, Skip, BadInput}
+use Rattle.text.specs.declared.input.Taken.TheVariants.{Push, Skip}
 use Rattle.text.proofs.Utf8Laws.{utf8_none, head_is}
 use Rattle.text.proofs.LineLaws.{line_none, line_part}
 
@@ -48,9 +48,6 @@ module _ (s : List ℕ) (at : ℕ) (h : length s ≤ at) where
 
 -- ---- the part of the input up to e, where the line ends
 module _ (f : List ℕ → Number) (next : Next) (s : List ℕ) (at e : ℕ) (is : e ≡ line_end s at) where
-  pub take_bad : (Valid (take (e - at) (drop at s)) → ⊥) → Takes f next s at BadInput
-  take_bad n = bad (λ v. n (subst Valid (sym (line_part s at e is)) v)) refl
-
   module _ (cs : List ℕ) (u : Utf8 (take (e - at) (drop at s)) cs) where
     line_utf8 : Utf8 (line_at s at) cs
     line_utf8 = subst (λ (l : List ℕ). Utf8 l cs) (line_part s at e is) u

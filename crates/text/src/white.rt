@@ -45,20 +45,17 @@ fn white_front(line: &[u8]) -> usize
     i
 }
 
-// Where the last character before `end` begins, back over continuation bytes. The index is what is looked for: a `for` would need a
-// second one.
+// Where the last character before `end` begins, back over continuation bytes.
 fn last_start(s: &[u8], end: usize) -> usize
     requires { (0 < end) × (end ≤ length s.now) }
     ensures { LastStart s.now end result }
 {
-    let mut k = end - 1;
-    while 0 < k {
-        let Some(_) = tail_at(s, k) else {
+    for k in (1..end).rev() {
+        if tail_at(s, k).is_none() {
             return k;
-        };
-        k -= 1;
+        }
     }
-    k
+    0
 }
 
 // Where the white space at the back of the line begins.

@@ -1,4 +1,4 @@
--- `colour::classify::classify` meets its contract: where the answer is Done, what `paint` requires follows from what the tests left; any other answer leaves the list as it was.
+-- `colour::classify::classify` meets its contract: where nothing is refused, what `paint` requires follows from what the tests left; any other answer leaves the list as it was.
 -- Assumes nothing.
 use native.Mathlib.Omega.{arith}
 use lib.ListN.{length}

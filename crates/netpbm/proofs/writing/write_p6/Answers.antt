@@ -1,4 +1,4 @@
--- `netpbm::writing::write_p6` meets its contract: where the answer is Done there is room; any other answer leaves the bytes as they were.
+-- `netpbm::writing::write_p6` meets its contract: where nothing is refused there is room; any other answer leaves the bytes as they were.
 -- Assumes nothing.
 use native.Mathlib.Omega.{arith}
 use lib.ListN.{length}
