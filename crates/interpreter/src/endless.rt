@@ -1,10 +1,10 @@
 // Whether every node has an exit that is not 0 (rule 7.5).
 ghost use Rattle.std.specs.Prelude.{◌≡◌, ◌+◌, ◌<◌, ◌≤◌, length};
 ghost use Rattle.table.specs.Layout.{rows_room, exits_room};
-ghost use Rattle.interpreter.specs.Table.{every, Good};
+ghost use Rattle.interpreter.specs.Table.{every};
 ghost use Rattle.interpreter.specs.Forever.{closed, onward, numbered, answer};
 
-use crate::validity::valid;
+use crate::good_table::GoodTable;
 use base::edition::Edition;
 use base::refusal::Refusal;
 use table::{Field, exit_cell, row_cell};
@@ -37,12 +37,11 @@ fn onward(rows: &[u32], exits: &[u32], region: usize) -> bool
 }
 
 // Whether all rows go onward.
-fn all_onward(rows: &[u32], exits: &[u32], n: usize) -> bool
-    requires { Good n rows.now exits.now }
-    ensures { result ≡ every (onward rows.now exits.now) n }
+fn all_onward(table: GoodTable) -> bool
+    ensures { result ≡ every (onward table.entry.rows.now table.entry.exits.now) table.entry.n }
 {
-    for i in 0..n {
-        if !onward(rows, exits, i) {
+    for i in 0..table.n {
+        if !onward(table.rows, table.exits, i) {
             return false;
         }
     }
@@ -53,8 +52,6 @@ fn all_onward(rows: &[u32], exits: &[u32], n: usize) -> bool
 pub fn determine_runs_forever(n: usize, rows: &[u32], exits: &[u32]) -> Result<bool, Refusal>
     ensures { numbered result ≡ answer n rows.now exits.now }
 {
-    if !valid(n, rows, exits, Edition::Rust) {
-        return Err(Refusal::Table);
-    }
-    Ok(all_onward(rows, exits, n))
+    let table = GoodTable::checked(n, rows, exits, Edition::Rust)?;
+    Ok(all_onward(table))
 }

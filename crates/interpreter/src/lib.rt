@@ -2,11 +2,13 @@
 #![tactic(auto)]
 
 mod endless;
+mod good_table;
 mod running;
 mod stepping;
 mod validity;
 
 pub use endless::determine_runs_forever;
+pub use good_table::GoodTable;
 use machine::{Core, Stop};
 pub use running::{begin, resume, run, run_history, run_observed};
 pub use stepping::{Moved, step};

@@ -2,15 +2,14 @@
 ghost use Rattle.std.specs.Prelude.{◌≡◌, ◌+◌, ◌-◌, ◌^◌, ◌<◌, length, get_or};
 ghost use Rattle.machine.specs.Machine.{given, JudgedIn, asks};
 ghost use Rattle.machine.specs.Held.{slices};
-ghost use Rattle.interpreter.specs.Table.{Good};
 ghost use Rattle.interpreter.specs.Resume.{Placed, Resumed, Started, Resumable};
 ghost use Rattle.interpreter.specs.Moving.{Begun};
 ghost use Rattle.interpreter.specs.Outcome.{Outcome};
 ghost use Rattle.interpreter.specs.Recorded.{Recorded};
 ghost use Rattle.interpreter.specs.Observed.{visited, CanCount, kept_at, ObservedFrom, ObservedAll};
 
+use crate::good_table::GoodTable;
 use crate::stepping::step;
-use crate::validity::valid;
 use crate::{Ended, State};
 use base::edition::Edition;
 use base::refusal::Refusal;
@@ -41,9 +40,7 @@ fn keep_exit(taken: &mut [u32], made: u64, exit: u32)
 // Steps from a place until a stop; each that is taken is a visit of the region that it reaches, and its exit is kept. This is the one
 // loop of every call of a run: with a second one a step would be a call of its own, and take three times as long.
 fn resume_observed(
-    n: usize,
-    rows: &[u32],
-    exits: &[u32],
+    table: GoodTable,
     terms: Terms,
     input: &[u8],
     stack: &mut [i64],
@@ -53,17 +50,16 @@ fn resume_observed(
     taken: &mut [u32],
     from: State,
 ) -> Ended
-    requires good { Good n rows.now exits.now }
-    requires placed { Placed n (slices stack.old kinds.old values.old) from }
+    requires placed { Placed table.n (slices stack.old kinds.old values.old) from }
     requires judged_in { JudgedIn (given terms input.now) from.core.reading }
-    requires can_count { CanCount n visits.old (terms.limit - from.steps) }
-    ensures resumed { Resumed n rows.now exits.now (given terms input.now) (slices stack.old kinds.old values.old) from (slices stack.new kinds.new values.new) result }
-    ensures observed_from { ObservedFrom rows.now exits.now (given terms input.now) (slices stack.old kinds.old values.old) from visits.old visits.new taken.old taken.new }
+    requires can_count { CanCount table.n visits.old (terms.limit - from.steps) }
+    ensures resumed { Resumed table.entry.n table.entry.rows.now table.entry.exits.now (given terms input.now) (slices stack.old kinds.old values.old) from (slices stack.new kinds.new values.new) result }
+    ensures observed_from { ObservedFrom table.entry.rows.now table.entry.exits.now (given terms input.now) (slices stack.old kinds.old values.old) from visits.old visits.new taken.old taken.new }
 {
     let begun = from.steps;
     let mut at = from;
     while at.steps < terms.limit {
-        match step(n, rows, exits, terms, input, stack, kinds, values, at) {
+        match step(table, terms, input, stack, kinds, values, at) {
             Ok(moved) => {
                 count_visit(visits, moved.next.region);
                 keep_exit(taken, at.steps - begun, moved.by);
@@ -82,9 +78,7 @@ fn resume_observed(
 
 // Steps from a place until a stop.
 pub fn resume(
-    n: usize,
-    rows: &[u32],
-    exits: &[u32],
+    table: GoodTable,
     terms: Terms,
     input: &[u8],
     stack: &mut [i64],
@@ -92,17 +86,14 @@ pub fn resume(
     values: &mut [i64],
     from: State,
 ) -> Ended
-    requires good { Good n rows.now exits.now }
-    requires placed { Placed n (slices stack.old kinds.old values.old) from }
+    requires placed { Placed table.n (slices stack.old kinds.old values.old) from }
     requires judged_in { JudgedIn (given terms input.now) from.core.reading }
-    ensures { Resumed n rows.now exits.now (given terms input.now) (slices stack.old kinds.old values.old) from (slices stack.new kinds.new values.new) result }
+    ensures { Resumed table.entry.n table.entry.rows.now table.entry.exits.now (given terms input.now) (slices stack.old kinds.old values.old) from (slices stack.new kinds.new values.new) result }
 {
     let mut uncounted = [0u64; 0];
     let mut unkept = [0u32; 0];
     resume_observed(
-        n,
-        rows,
-        exits,
+        table,
         terms,
         input,
         stack,
@@ -144,9 +135,7 @@ pub fn begin(stack: &mut [i64], kinds: &mut [u8], values: &mut [i64]) -> State
 
 // From the start until a stop. The start itself is no visit here; a run that nobody observes is lent no cells.
 pub fn run_observed(
-    n: usize,
-    rows: &[u32],
-    exits: &[u32],
+    table: GoodTable,
     terms: Terms,
     input: &[u8],
     stack: &mut [i64],
@@ -155,14 +144,13 @@ pub fn run_observed(
     visits: &mut [u64],
     taken: &mut [u32],
 ) -> Ended
-    requires good { Good n rows.now exits.now }
-    requires can_count { CanCount n visits.old terms.limit }
-    ensures started { Started n rows.now exits.now (given terms input.now) (slices stack.old kinds.old values.old) (slices stack.new kinds.new values.new) result }
-    ensures observed_all { ObservedAll rows.now exits.now (given terms input.now) (slices stack.old kinds.old values.old) visits.old visits.new taken.old taken.new }
+    requires can_count { CanCount table.n visits.old terms.limit }
+    ensures started { Started table.entry.n table.entry.rows.now table.entry.exits.now (given terms input.now) (slices stack.old kinds.old values.old) (slices stack.new kinds.new values.new) result }
+    ensures observed_all { ObservedAll table.entry.rows.now table.entry.exits.now (given terms input.now) (slices stack.old kinds.old values.old) visits.old visits.new taken.old taken.new }
 {
     let from = begin(stack, kinds, values);
     resume_observed(
-        n, rows, exits, terms, input, stack, kinds, values, visits, taken, from,
+        table, terms, input, stack, kinds, values, visits, taken, from,
     )
 }
 
@@ -185,9 +173,7 @@ pub fn run_history(
     ensures resumable { Resumable n rows.now exits.now (asks edition limit abstract_mode input.now) (slices stack.old kinds.old values.old) result (slices stack.new kinds.new values.new) }
 {
     let known = Edition::try_from(edition)?;
-    if !valid(n, rows, exits, known) {
-        return Err(Refusal::Table);
-    }
+    let table = GoodTable::checked(n, rows, exits, known)?;
     let terms = Terms {
         edition: known,
         limit,
@@ -195,9 +181,7 @@ pub fn run_history(
     };
     let mut uncounted = [0u64; 0];
     Ok(run_observed(
-        n,
-        rows,
-        exits,
+        table,
         terms,
         input,
         stack,

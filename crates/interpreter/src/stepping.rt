@@ -5,11 +5,12 @@ ghost use Rattle.table.specs.Layout.{rows_room, exits_room};
 ghost use Rattle.table.specs.ExitNumber.{target_of};
 ghost use Rattle.machine.specs.Machine.{given, JudgedIn};
 ghost use Rattle.machine.specs.Held.{slices};
-ghost use Rattle.interpreter.specs.Table.{exit_of, ends, Good};
+ghost use Rattle.interpreter.specs.Table.{exit_of, ends};
 ghost use Rattle.interpreter.specs.Resume.{Placed};
 ghost use Rattle.interpreter.specs.Moving.{Gone, Stepped};
 
 use crate::State;
+use crate::good_table::GoodTable;
 use flow::PointerState;
 use machine::{Op, Stop, Terms};
 use table::{Field, LOST_SLIDE, exit_cell, instruction_of, row_cell, state_of, target_of};
@@ -96,9 +97,7 @@ fn ends(w: u32) -> bool
 // One step: NeedsInput where input is awaited, Completed where no attempt is open or a lost slide comes first, else through
 // the first open exit.
 pub fn step(
-    n: usize,
-    rows: &[u32],
-    exits: &[u32],
+    table: GoodTable,
     terms: Terms,
     input: &[u8],
     stack: &mut [i64],
@@ -106,11 +105,10 @@ pub fn step(
     values: &mut [i64],
     at: State,
 ) -> Result<Moved, Stop>
-    requires good { Good n rows.now exits.now }
-    requires placed { Placed n (slices stack.old kinds.old values.old) at }
+    requires placed { Placed table.n (slices stack.old kinds.old values.old) at }
     requires judged_in { JudgedIn (given terms input.now) at.core.reading }
     requires steps_bound { at.steps + 1 < 2 ^ 64 }
-    ensures { Stepped n rows.now exits.now (given terms input.now) (slices stack.old kinds.old values.old) at (slices stack.new kinds.new values.new) result }
+    ensures { Stepped table.entry.n table.entry.rows.now table.entry.exits.now (given terms input.now) (slices stack.old kinds.old values.old) at (slices stack.new kinds.new values.new) result }
 {
     let core = at.core;
     if core.reading.awaiting {
@@ -118,9 +116,11 @@ pub fn step(
     }
     let region = at.region;
     let pointers = core.pointers;
-    let w = open_exit(exits, region, pointers);
+    let w = open_exit(table.exits, region, pointers);
     if ends(w) {
         return Err(Stop::Completed);
     }
-    go_through(n, rows, terms, input, stack, kinds, values, at, w)
+    go_through(
+        table.n, table.rows, terms, input, stack, kinds, values, at, w,
+    )
 }

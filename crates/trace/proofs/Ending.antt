@@ -47,7 +47,6 @@ module _ {n : ℕ} {rows exits : List ℕ} {g : Given} {l : Slices} {e : Ended} 
       let h = run_history (job_of rows exits g l) g.terms.limit start in
       let same : (end_of rows exits g l').at.steps ≡ end.at.steps = ap (λ (j : Job). (ran j).at.steps) (same_job rows exits g {l = l'} {l₀ = l} long) in
       record {
-        good = E.good;
         labelled = E.labelled;
         few = omega arith;
         made = omega (arith, steps_are, same);

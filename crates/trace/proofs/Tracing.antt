@@ -14,6 +14,7 @@ use Rattle.machine.specs.Machine.{Given, RunRoom, Store, given_of}
 use Rattle.machine.specs.Place.{start, End}
 use Rattle.machine.specs.Held.{Slices, room_of}
 use Rattle.interpreter.specs.declared.Ended.{Ended}
+use Rattle.interpreter.specs.Table.{Good}
 use Rattle.interpreter.specs.Run.{Job}
 use Rattle.interpreter.specs.Outcome.{job_of, end_of, ended_of, slices_of}
 use Rattle.interpreter.proofs.Histories.{run_history}
@@ -100,10 +101,12 @@ module _ (c : Content) {l l' : Lends} (s : Sized l) (s' : Sized l') {x : Ended} 
   in_table : {r : ℕ} → r < n → r < f.runs.regions
   in_table h = rw f.counted h
 
-  -- it can be told
+  -- the table may be relied on, and the run can be told
+  pub good : Good n l'.rows l'.exits
+  good = good_of (edition_of rust_number) n l'.rows l'.exits table.valid
+
   pub endable : (room : ℕ) → trace_room ≤ room → Endable n l'.rows l'.exits g l'.run x room
   endable room h = record {
-    good = good_of (edition_of rust_number) n l'.rows l'.exits table.valid;
     labelled = λ r k. has_label c s s' none f.runs r (in_table k);
     inside = region_in;
     ended = is-end;

@@ -6,7 +6,7 @@ use Rattle.machine.specs.Place.{Machine, start}
 use Rattle.machine.specs.Held.{Slices}
 use Rattle.interpreter.specs.declared.State.{State}
 use Rattle.interpreter.specs.declared.Ended.{Ended}
-use Rattle.interpreter.specs.Table.{op_of, Good}
+use Rattle.interpreter.specs.Table.{op_of}
 use Rattle.interpreter.specs.Run.{Job, goes, exit_from, step_of}
 use Rattle.interpreter.specs.Outcome.{job_of, end_of, ended_of, slices_of}
 use Rattle.interpreter.specs.Resume.{machine_of}
@@ -43,7 +43,6 @@ pub record Steps (n : ℕ) (rows exits : List ℕ) (g : Given) (l : Slices) (at 
 
 -- a run of a table of which so many moves can be told
 pub record Tellable (n : ℕ) (rows exits : List ℕ) (g : Given) (l : Slices) (room shown : ℕ) : Type 0 where
-  pub good : Good n rows exits
   pub labelled : Labelled n rows
   pub few : shown ≤ most_lines
   pub made : shown ≤ (end_of rows exits g l).at.steps
@@ -60,7 +59,6 @@ pub record Tells (rows exits : List ℕ) (g : Given) (l : Slices) (shown : ℕ) 
 
 -- a run of a table that ended in e, with these slices, in the room of a job's run, and can be told
 pub record Endable (n : ℕ) (rows exits : List ℕ) (g : Given) (l : Slices) (e : Ended) (room : ℕ) : Type 0 where
-  pub good : Good n rows exits
   pub labelled : Labelled n rows
   pub inside : e.at.region < n
   pub ended : e ≡ ended_of (end_of rows exits g l)

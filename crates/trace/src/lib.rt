@@ -4,7 +4,6 @@
 ghost use Rattle.std.specs.Prelude.{◌≡◌, min, ◌+◌, ◌^◌, ◌<◌, ◌≤◌, length};
 ghost use Rattle.machine.specs.Machine.{given, given_of, JudgedIn};
 ghost use Rattle.machine.specs.Held.{slices, store_of};
-ghost use Rattle.interpreter.specs.Table.{Good};
 ghost use Rattle.interpreter.specs.Outcome.{job_of};
 ghost use Rattle.interpreter.specs.Resume.{machine_of, Placed};
 ghost use Rattle.job.specs.Outcome.{Reads, content_of};
@@ -18,7 +17,7 @@ ghost use Rattle.trace.specs.Told.{Goes, Steps, Tellable, Tells, Endable, Ends};
 
 use answer::{label_region, run_parts};
 use base::edition::Edition;
-use interpreter::{Ended, State, begin, step};
+use interpreter::{Ended, GoodTable, State, begin, step};
 use job::Parts;
 use machine::{Op, Terms};
 use piet::run_picture::Pictured;
@@ -55,9 +54,7 @@ fn lines_of(moves: u64) -> u64
 fn put_step(
     out: &mut [u8],
     end: usize,
-    n: usize,
-    rows: &[u32],
-    exits: &[u32],
+    table: GoodTable,
     terms: Terms,
     input: &[u8],
     stack: &mut [i64],
@@ -65,21 +62,20 @@ fn put_step(
     values: &mut [i64],
     at: State,
 ) -> Shown
-    requires good { Good n rows.now exits.now }
-    requires placed { Placed n (slices stack.old kinds.old values.old) at }
+    requires placed { Placed table.n (slices stack.old kinds.old values.old) at }
     requires judged_in { JudgedIn (given terms input.now) at.core.reading }
     requires steps_bound { (at.steps + 1 < 2 ^ 64) × (end + 512 ≤ length out.old) }
-    requires has_label { HasLabel rows.now at.region }
-    requires goes { Goes (job_of rows.now exits.now (given terms input.now) (slices stack.old kinds.old values.old)) (machine_of (slices stack.old kinds.old values.old) at) }
-    ensures { Steps n rows.now exits.now (given terms input.now) (slices stack.old kinds.old values.old) at (slices stack.new kinds.new values.new) out.old end result out.new }
+    requires has_label { HasLabel table.rows.now at.region }
+    requires goes { Goes (job_of table.rows.now table.exits.now (given terms input.now) (slices stack.old kinds.old values.old)) (machine_of (slices stack.old kinds.old values.old) at) }
+    ensures { Steps table.entry.n table.entry.rows.now table.entry.exits.now (given terms input.now) (slices stack.old kinds.old values.old) at (slices stack.new kinds.new values.new) out.old end result out.new }
 {
     let core = at.core;
     let mut took = [0u8; 198];
     let size = put_stack(&mut took, 0, stack, core.depth);
-    let moved = step(n, rows, exits, terms, input, stack, kinds, values, at).unwrap();
+    let moved = step(table, terms, input, stack, kinds, values, at).unwrap();
     let next = moved.next;
     let mut label = [0u8; 22];
-    let named = label_region(rows, at.region as usize, &mut label);
+    let named = label_region(table.rows, at.region as usize, &mut label);
     let op = Op::from(instruction_of(moved.by));
     let after = put_move(
         out,
@@ -104,24 +100,20 @@ fn put_step(
 fn put_moves(
     out: &mut [u8],
     shown: u64,
-    n: usize,
-    rows: &[u32],
-    exits: &[u32],
+    table: GoodTable,
     terms: Terms,
     input: &[u8],
     stack: &mut [i64],
     kinds: &mut [u8],
     values: &mut [i64],
 ) -> usize
-    requires { Tellable n rows.now exits.now (given terms input.now) (slices stack.old kinds.old values.old) (length out.old) shown }
-    ensures { Tells rows.now exits.now (given terms input.now) (slices stack.old kinds.old values.old) shown out.old result out.new }
+    requires { Tellable table.n table.rows.now table.exits.now (given terms input.now) (slices stack.old kinds.old values.old) (length out.old) shown }
+    ensures { Tells table.entry.rows.now table.entry.exits.now (given terms input.now) (slices stack.old kinds.old values.old) shown out.old result out.new }
 {
     let mut at = begin(stack, kinds, values);
     let mut end = 0;
     while at.steps < shown {
-        let told = put_step(
-            out, end, n, rows, exits, terms, input, stack, kinds, values, at,
-        );
+        let told = put_step(out, end, table, terms, input, stack, kinds, values, at);
         at = told.at;
         end = told.end;
     }
@@ -163,9 +155,7 @@ fn put_ended(
 // The trace of a run that ended: its first moves, made again in slices of their own, how many more there are, and its end.
 fn put_trace(
     out: &mut [u8],
-    n: usize,
-    rows: &[u32],
-    exits: &[u32],
+    table: GoodTable,
     terms: Terms,
     input: &[u8],
     e: Ended,
@@ -173,8 +163,8 @@ fn put_trace(
     kinds: &[u8],
     values: &[i64],
 ) -> usize
-    requires { Endable n rows.now exits.now (given terms input.now) (slices stack.now kinds.now values.now) e (length out.old) }
-    ensures { Ends rows.now exits.now (given terms input.now) (slices stack.now kinds.now values.now) out.old result out.new }
+    requires { Endable table.n table.rows.now table.exits.now (given terms input.now) (slices stack.now kinds.now values.now) e (length out.old) }
+    ensures { Ends table.entry.rows.now table.entry.exits.now (given terms input.now) (slices stack.now kinds.now values.now) out.old result out.new }
 {
     let mut stack_again = [0i64; 256];
     let mut kinds_again = [0u8; 256];
@@ -185,9 +175,7 @@ fn put_trace(
     let told = put_moves(
         out,
         shown,
-        n,
-        rows,
-        exits,
+        table,
         terms,
         input,
         &mut stack_again,
@@ -195,7 +183,7 @@ fn put_trace(
         &mut values_again,
     );
     let hidden = put_hidden(out, told, steps - shown);
-    put_ended(out, hidden, rows, e, stack, kinds, values)
+    put_ended(out, hidden, table.rows, e, stack, kinds, values)
 }
 
 // The same, with the run's terms and its input as parts of the job.
@@ -203,17 +191,15 @@ fn trace_parts(
     job: &[u8],
     out: &mut [u8],
     p: Parts,
-    n: usize,
-    rows: &[u32],
-    exits: &[u32],
+    table: GoodTable,
     e: Ended,
     stack: &[i64],
     kinds: &[u8],
     values: &[i64],
 ) -> usize
     requires reads { Reads job.now p }
-    requires endable { Endable n rows.now exits.now (given_of (asked_of (content_of job.now p)).asks) (slices stack.now kinds.now values.now) e (length out.old) }
-    ensures { Ends rows.now exits.now (given_of (asked_of (content_of job.now p)).asks) (slices stack.now kinds.now values.now) out.old result out.new }
+    requires endable { Endable table.n table.rows.now table.exits.now (given_of (asked_of (content_of job.now p)).asks) (slices stack.now kinds.now values.now) e (length out.old) }
+    ensures { Ends table.entry.rows.now table.entry.exits.now (given_of (asked_of (content_of job.now p)).asks) (slices stack.now kinds.now values.now) out.old result out.new }
 {
     let input = p.input;
     let end = p.end;
@@ -222,18 +208,7 @@ fn trace_parts(
         limit: p.limit,
         abstract_mode: p.abstracted,
     };
-    put_trace(
-        out,
-        n,
-        rows,
-        exits,
-        terms,
-        &job[input..end],
-        e,
-        stack,
-        kinds,
-        values,
-    )
+    put_trace(out, table, terms, &job[input..end], e, stack, kinds, values)
 }
 
 // The trace of a job that was read, with room for 512 pixels, 256 stack cells and 256 outputs.
@@ -262,9 +237,14 @@ fn trace_job(job: &[u8], out: &mut [u8], p: Parts) -> usize
         &mut values,
     );
     match pictured {
-        Ok(Pictured { ended, regions }) => trace_parts(
-            job, out, p, regions, &rows, &exits, ended, &stack, &kinds, &values,
-        ),
+        Ok(Pictured { ended, regions }) => {
+            let table = GoodTable {
+                n: regions,
+                rows: &rows,
+                exits: &exits,
+            };
+            trace_parts(job, out, p, table, ended, &stack, &kinds, &values)
+        }
         Err(refusal) => put_refusal(out, refusal.number() as u64),
     }
 }

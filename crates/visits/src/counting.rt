@@ -2,20 +2,17 @@
 ghost use Rattle.std.specs.Prelude.{◌+◌, ◌^◌, ◌<◌, ◌≤◌, length};
 ghost use Rattle.machine.specs.Machine.{given};
 ghost use Rattle.machine.specs.Held.{slices};
-ghost use Rattle.interpreter.specs.Table.{Good};
 ghost use Rattle.interpreter.specs.Outcome.{job_of};
 ghost use Rattle.interpreter.specs.Resume.{Started};
 ghost use Rattle.visits.specs.Counted.{Counted};
 
 use base::fill::fill;
-use interpreter::{Ended, run_observed};
+use interpreter::{Ended, GoodTable, run_observed};
 use machine::Terms;
 
 // From the start until a stop, with a cell a region, whatever the cells held. The start is a visit of region 0.
 pub fn count_visits(
-    n: usize,
-    rows: &[u32],
-    exits: &[u32],
+    table: GoodTable,
     terms: Terms,
     input: &[u8],
     stack: &mut [i64],
@@ -23,18 +20,15 @@ pub fn count_visits(
     values: &mut [i64],
     visits: &mut [u64],
 ) -> Ended
-    requires good { Good n rows.now exits.now }
-    requires n_in_bounds { (n ≤ length visits.old) × (terms.limit + 1 < 2 ^ 64) }
-    ensures started { Started n rows.now exits.now (given terms input.now) (slices stack.old kinds.old values.old) (slices stack.new kinds.new values.new) result }
-    ensures counted { Counted n (job_of rows.now exits.now (given terms input.now) (slices stack.old kinds.old values.old)) visits.old visits.new }
+    requires n_in_bounds { (table.n ≤ length visits.old) × (terms.limit + 1 < 2 ^ 64) }
+    ensures started { Started table.entry.n table.entry.rows.now table.entry.exits.now (given terms input.now) (slices stack.old kinds.old values.old) (slices stack.new kinds.new values.new) result }
+    ensures counted { Counted table.entry.n (job_of table.entry.rows.now table.entry.exits.now (given terms input.now) (slices stack.old kinds.old values.old)) visits.old visits.new }
 {
-    fill(visits, 0, n, 0);
+    fill(visits, 0, table.n, 0);
     visits[0] = 1;
     let mut unkept = [0u32; 0];
     run_observed(
-        n,
-        rows,
-        exits,
+        table,
         terms,
         input,
         stack,

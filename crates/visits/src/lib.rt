@@ -12,7 +12,7 @@ ghost use Rattle.visits.specs.Outcome.{Outcome, lends, ran_of};
 use base::edition::Edition;
 use base::refusal::Refusal;
 use counting::count_visits;
-use interpreter::{Ended, valid};
+use interpreter::{Ended, GoodTable};
 use listing::list_unvisited;
 use machine::Terms;
 
@@ -46,9 +46,7 @@ pub fn run_visits(
     ensures resumable { Resumable n rows.now exits.now (asks edition limit abstract_mode input.now) (slices stack.old kinds.old values.old) (ran_of result) (slices stack.new kinds.new values.new) }
 {
     let known = Edition::try_from(edition)?;
-    if !valid(n, rows, exits, known) {
-        return Err(Refusal::Table);
-    }
+    let table = GoodTable::checked(n, rows, exits, known)?;
     if limit == UNCOUNTABLE {
         return Err(Refusal::Limit);
     }
@@ -63,7 +61,7 @@ pub fn run_visits(
         limit,
         abstract_mode,
     };
-    let ended = count_visits(n, rows, exits, terms, input, stack, kinds, values, visits);
+    let ended = count_visits(table, terms, input, stack, kinds, values, visits);
     let missed = list_unvisited(n, rows, visits, unvisited);
     Ok(Visited {
         ended,

@@ -15,7 +15,7 @@ loop-at-init c =
     let what : Given = given c.args.terms c.args.input.now in
     let held : Slices = slices c.args.stack.now c.args.kinds.now c.args.values.now in
     let cleared : AsLong (slices c.begin-at.new.stack c.begin-at.new.kinds c.begin-at.new.values) held = record { stack = c.begin-at.auto.stack; kinds = c.begin-at.auto.kinds; values = c.begin-at.auto.values } in
-    telling_start c.args.n c.args.rows.now c.args.exits.now what held c.begin-at.ensures cleared c.args.shown c.args.out.now c.requires.good.some
+    telling_start c.args.table.n c.args.table.rows.now c.args.table.exits.now what held c.begin-at.ensures cleared c.args.shown c.args.out.now c.args.table.good.some
 
 pub put_step-told-requires : goal.put_step-told-requires
 put_step-told-requires c =
@@ -26,12 +26,11 @@ put_step-told-requires c =
     let a = c.loop-at.invariant.along in
     let p = c.requires in
     let below = c.loop-at-test.true in record {
-      good = p.good;
       placed = a.placed;
       judged_in = a.judged;
-      steps_bound = (omega (arith, below, p.few), telling_room c.args.n c.args.rows.now c.args.exits.now what _ _ c.args.shown c.args.out.now c.loop-at.invariant enough below);
+      steps_bound = (omega (arith, below, p.few), telling_room c.args.table.n c.args.table.rows.now c.args.table.exits.now what _ _ c.args.shown c.args.out.now c.loop-at.invariant enough below);
       has_label = p.labelled c.loop-at.at.region a.placed.inside;
-      goes = telling_goes c.args.n c.args.rows.now c.args.exits.now what held c.begin-at.ensures cleared c.args.shown c.args.out.now c.loop-at.invariant below p.within p.made;
+      goes = telling_goes c.args.table.n c.args.table.rows.now c.args.table.exits.now what held c.begin-at.ensures cleared c.args.shown c.args.out.now c.loop-at.invariant below p.within p.made;
     }
 
 pub loop-at-smaller : goal.loop-at-smaller
@@ -39,7 +38,7 @@ loop-at-smaller c =
     let what : Given = given c.args.terms c.args.input.now in
     let standing : Slices = slices c.loop-at.stack c.loop-at.kinds c.loop-at.values in
     let left : Slices = slices c.put_step-told.new.stack c.put_step-told.new.kinds c.put_step-told.new.values in
-    omega (arith, c.loop-at-test.true, next_steps c.args.n c.args.rows.now c.args.exits.now what standing c.loop-at.at left c.put_step-told.ensures.stepped)
+    omega (arith, c.loop-at-test.true, next_steps c.args.table.n c.args.table.rows.now c.args.table.exits.now what standing c.loop-at.at left c.put_step-told.ensures.stepped)
 
 pub loop-at-preserved : goal.loop-at-preserved
 loop-at-preserved c =
@@ -49,7 +48,7 @@ loop-at-preserved c =
     let long : AsLong left standing = record { stack = c.put_step-told.auto.stack; kinds = c.put_step-told.auto.kinds; values = c.put_step-told.auto.values } in
     let enough : 512 * c.args.shown ≤ length c.args.out.now = let p = c.requires in omega (arith, p.few, p.roomy) in
     let below = c.loop-at-test.true in
-    telling_next c.args.n c.args.rows.now c.args.exits.now what _ _ c.args.shown c.args.out.now c.loop-at.invariant (omega (arith, below, c.requires.within)) below enough
+    telling_next c.args.table.n c.args.table.rows.now c.args.table.exits.now what _ _ c.args.shown c.args.out.now c.loop-at.invariant (omega (arith, below, c.requires.within)) below enough
     c.put_step-told.ensures long
 
 pub shape_of-out : goal.shape_of-out
@@ -79,4 +78,4 @@ returns c =
     let what : Given = given c.args.terms c.args.input.now in
     let held : Slices = slices c.args.stack.now c.args.kinds.now c.args.values.now in
     let cleared : AsLong (slices c.begin-at.new.stack c.begin-at.new.kinds c.begin-at.new.values) held = record { stack = c.begin-at.auto.stack; kinds = c.begin-at.auto.kinds; values = c.begin-at.auto.values } in
-    telling_end c.args.n c.args.rows.now c.args.exits.now what held c.begin-at.ensures cleared c.args.shown c.args.out.now c.loop-at.invariant c.loop-at-test.false
+    telling_end c.args.table.n c.args.table.rows.now c.args.table.exits.now what held c.begin-at.ensures cleared c.args.shown c.args.out.now c.loop-at.invariant c.loop-at-test.false

@@ -7,7 +7,7 @@ use Rattle.trace.proofs.put_moves.Given as goal
 
 abbrev pub invariant-loop-at : goal.invariant-loop-at
 invariant-loop-at l =
-    Telling l.n l.rows l.exits (given l.terms l.input) (slices l.initial.stack l.initial.kinds l.initial.values) l.initial.at l.shown l.initial.out (slices l.stack l.kinds l.values) l.at l.end l.out
+    Telling l.table.n l.table.rows.now l.table.exits.now (given l.terms l.input) (slices l.initial.stack l.initial.kinds l.initial.values) l.initial.at l.shown l.initial.out (slices l.stack l.kinds l.values) l.at l.end l.out
 
 abbrev pub decreases-loop-at : goal.decreases-loop-at
 decreases-loop-at l = l.shown - l.at.steps

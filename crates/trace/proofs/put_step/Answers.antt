@@ -14,7 +14,6 @@ use Rattle.trace.proofs.put_step.Goals as goal
 
 pub step-requires : goal.step-requires
 step-requires c = let p = c.requires in record {
-  good = p.good;
   placed = p.placed;
   judged_in = p.judged_in;
   steps_bound = p.steps_bound.0;
@@ -25,7 +24,7 @@ unwrap-moved-requires c =
     let what : Given = given c.args.terms c.args.input.now in
     let held : Slices = slices c.args.stack.now c.args.kinds.now c.args.values.now in
     let left : Slices = slices c.step.new.stack c.step.new.kinds c.step.new.values in
-    made c.args.n c.args.rows.now c.args.exits.now what held c.args.at left c.step.result c.step.ensures c.requires.goes
+    made c.args.table.n c.args.table.rows.now c.args.table.exits.now what held c.args.at left c.step.result c.step.ensures c.requires.goes
 
 pub label_region-named-requires : goal.label_region-named-requires
 label_region-named-requires c = (c.requires.has_label, omega arith)
@@ -35,9 +34,9 @@ instruction_of-requires c =
     let what : Given = given c.args.terms c.args.input.now in
     let held : Slices = slices c.args.stack.now c.args.kinds.now c.args.values.now in
     let left : Slices = slices c.step.new.stack c.step.new.kinds c.step.new.values in
-    let gone : Stepped c.args.n c.args.rows.now c.args.exits.now what held c.args.at left (Ok c.unwrap-moved.result) =
-    subst (Stepped c.args.n c.args.rows.now c.args.exits.now what held c.args.at left) c.unwrap-moved.ensures c.step.ensures in
-    some_by c.args.n c.args.rows.now c.args.exits.now what held c.args.at left gone
+    let gone : Stepped c.args.table.n c.args.table.rows.now c.args.table.exits.now what held c.args.at left (Ok c.unwrap-moved.result) =
+    subst (Stepped c.args.table.n c.args.table.rows.now c.args.table.exits.now what held c.args.at left) c.unwrap-moved.ensures c.step.ensures in
+    some_by c.args.table.n c.args.table.rows.now c.args.table.exits.now what held c.args.at left gone
 
 pub slice_bounds-put_move-end : goal.slice_bounds-put_move-end
 slice_bounds-put_move-end c = sym (length-take-le _ _ c.label_region-named.ensures.0.within)
@@ -59,12 +58,12 @@ put_move-after-requires c =
     let what : Given = given c.args.terms c.args.input.now in
     let held : Slices = slices c.args.stack.now c.args.kinds.now c.args.values.now in
     let left : Slices = slices c.step.new.stack c.step.new.kinds c.step.new.values in
-    let gone : Stepped c.args.n c.args.rows.now c.args.exits.now what held c.args.at left (Ok c.unwrap-moved.result) =
-    subst (Stepped c.args.n c.args.rows.now c.args.exits.now what held c.args.at left) c.unwrap-moved.ensures c.step.ensures in
+    let gone : Stepped c.args.table.n c.args.table.rows.now c.args.table.exits.now what held c.args.at left (Ok c.unwrap-moved.result) =
+    subst (Stepped c.args.table.n c.args.table.rows.now c.args.table.exits.now what held c.args.at left) c.unwrap-moved.ensures c.step.ensures in
     let brief : c.put_stack-size.result ≤ 198 = let w = c.put_stack-size.ensures in omega (arith, part_size w, w.short) in
     let within : c.put_stack-size.result ≤ length c.put_stack-size.new.out = omega (arith, brief, c.put_stack-size.auto.out) in
     let t = c.label_region-named.ensures in record {
-      inside = inside (reached c.args.n c.args.rows.now c.args.exits.now what held c.args.at left gone);
+      inside = inside (reached c.args.table.n c.args.table.rows.now c.args.table.exits.now what held c.args.at left gone);
       label_len_bound = ((part_brief _ t.0.within t.1, part_brief _ within brief), c.requires.steps_bound.1);
     }
 
@@ -73,11 +72,11 @@ returns c =
     let what : Given = given c.args.terms c.args.input.now in
     let held : Slices = slices c.args.stack.now c.args.kinds.now c.args.values.now in
     let left : Slices = slices c.step.new.stack c.step.new.kinds c.step.new.values in
-    let gone : Stepped c.args.n c.args.rows.now c.args.exits.now what held c.args.at left (Ok c.unwrap-moved.result) =
-    subst (Stepped c.args.n c.args.rows.now c.args.exits.now what held c.args.at left) c.unwrap-moved.ensures c.step.ensures in
+    let gone : Stepped c.args.table.n c.args.table.rows.now c.args.table.exits.now what held c.args.at left (Ok c.unwrap-moved.result) =
+    subst (Stepped c.args.table.n c.args.table.rows.now c.args.table.exits.now what held c.args.at left) c.unwrap-moved.ensures c.step.ensures in
     record {
-      stepped = stepped c.args.n c.args.rows.now c.args.exits.now what held c.args.at left gone;
+      stepped = stepped c.args.table.n c.args.table.rows.now c.args.table.exits.now what held c.args.at left gone;
       line =
-          rw (line_of c.args.n c.args.rows.now c.args.exits.now what held c.args.at left gone c.label_region-named.ensures.0.is (c.from-op.ensures ∙ ap op_numbered c.instruction_of.ensures) (part_is c.put_stack-size.ensures))
+          rw (line_of c.args.table.n c.args.table.rows.now c.args.table.exits.now what held c.args.at left gone c.label_region-named.ensures.0.is (c.from-op.ensures ∙ ap op_numbered c.instruction_of.ensures) (part_is c.put_stack-size.ensures))
           at c.put_move-after.ensures;
     }

@@ -21,7 +21,7 @@ put_moves-told-requires c =
     let what : Given = given c.args.terms c.args.input.now in
     let held : Slices = slices c.args.stack.now c.args.kinds.now c.args.values.now in
     let long : AsLong again held = record { stack = sym c.requires.sized.0; kinds = sym c.requires.sized.1; values = sym c.requires.sized.2 } in
-    subst (Tellable c.args.n c.args.rows.now c.args.exits.now what again (length c.args.out.now)) (sym c.lines_of-shown.ensures) (tellable c.requires long)
+    subst (Tellable c.args.table.n c.args.table.rows.now c.args.table.exits.now what again (length c.args.out.now)) (sym c.lines_of-shown.ensures) (tellable c.requires long)
 
 pub overflow_sub-steps : goal.overflow_sub-steps
 overflow_sub-steps c = omega (arith, c.lines_of-shown.ensures)

@@ -11,9 +11,28 @@ use Rattle.job.specs.Outcome.{content_of}
 use Rattle.answer.specs.Program.{asked_of}
 use Rattle.answer.proofs.Ending.{Sized, fresh, fresh_sized}
 use Rattle.answer.proofs.Answering.{prints_refusal}
-use Rattle.trace.proofs.Tracing.{endable, prints_trace}
+use Rattle.trace.proofs.Tracing.{good, endable, prints_trace}
 use Rattle.std.proofs.Common.{rules}
 use Rattle.trace.proofs.trace_job.Goals as goal
+
+pub invariant_of-table : goal.invariant_of-table
+invariant_of-table c =
+    let content : Content = content_of c.args.job.now c.args.p in
+    let lent_after : Lends =
+    let z = c.run_parts-pictured.new in
+    lends z.colours z.map z.rows z.exits z.work z.stack z.kinds z.values in
+    let sized : Sized lent_after = record {
+      colours = search rules;
+      map = search rules;
+      rows = search rules;
+      exits = search rules;
+      work = search rules;
+      stack = search rules;
+      kinds = search rules;
+      values = search rules;
+    } in
+    let answered : (r : Result Pictured Refusal) → c.run_parts-pictured.result ≡ r → running.Outcome (asked_of content) fresh r lent_after = λ r e. subst (λ (x : Result Pictured Refusal). running.Outcome (asked_of content) fresh x lent_after) e c.run_parts-pictured.ensures in
+    record { good = good content fresh_sized sized (answered _ c.in-Ok.is) }
 
 pub trace_parts-requires : goal.trace_parts-requires
 trace_parts-requires c =

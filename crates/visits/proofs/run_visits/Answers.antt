@@ -1,6 +1,6 @@
 -- `visits::run_visits` meets its contract. The tests are those of the table of refusals, in its order; past them the counts that are
 -- listed are those of the history. Assumes nothing.
-use mathlib.Core.Path.{◌≡◌, refl, sym, ap, subst, ◌∙◌}
+use mathlib.Core.Path.{◌≡◌, refl, ap, subst, ◌∙◌}
 use mathlib.Core.Bool.{true, false}
 use mathlib.Core.List.{List, ◌++◌}
 use Prim.Native.Nat.{ℕ, ◌-◌}
@@ -41,23 +41,22 @@ returns-in_err-known c =
     let k = edition_refused a.edition c.in_err-known.ensures in
     rw (p.1, p.2, k.1) (record { outcome = refuses a.n a.rows.now a.exits.now what held (unknown k.0); resumable = tt })
 
-pub returns-then-not-valid : goal.returns-then-not-valid
-returns-then-not-valid c =
+pub returns-in_err-table : goal.returns-in_err-table
+returns-in_err-table c =
     let what : Asks = asks c.args.edition c.args.limit c.args.abstract_mode c.args.input.now in
     let held : Lends = lends c.args.stack.now c.args.kinds.now c.args.values.now c.args.visits.now c.args.unvisited.now in
     let a = c.args in
+    let p = err_from_is_err_and c.from_residual-in_err-table.result c.from_residual-in_err-table.ensures.1 in
     let k = edition_known a.edition c.in_ok-known.ensures in
-    record {
-      outcome = refuses a.n a.rows.now a.exits.now what held (wrong k.0 (rw k.1 at (sym c.valid.ensures ∙ c.if-not-valid.true)));
-      resumable = tt;
-    }
+    let bad = c.in_err-table.ensures in
+    rw (p.1, p.2, bad.1) (record { outcome = refuses a.n a.rows.now a.exits.now what held (wrong k.0 (rw k.1 at bad.0)); resumable = tt })
 
 pub returns-then-limit-eq-UNCOUNTABLE : goal.returns-then-limit-eq-UNCOUNTABLE
 returns-then-limit-eq-UNCOUNTABLE c =
     let what : Asks = asks c.args.edition c.args.limit c.args.abstract_mode c.args.input.now in
     let held : Lends = lends c.args.stack.now c.args.kinds.now c.args.values.now c.args.visits.now c.args.unvisited.now in
     let k = edition_known c.args.edition c.in_ok-known.ensures in
-    let valid : let a = c.args in valid_of (edition_of a.edition) a.n a.rows.now a.exits.now ≡ true = rw k.1 at (sym c.valid.ensures ∙ c.if-not-valid.false) in
+    let valid : let a = c.args in valid_of (edition_of a.edition) a.n a.rows.now a.exits.now ≡ true = rw k.1 at c.in_ok-table.ensures.0 in
     let a = c.args in record {
       outcome = refuses a.n a.rows.now a.exits.now what held (endless k.0 valid (eq-eqb a.limit uncountable c.if-limit-eq-UNCOUNTABLE.true));
       resumable = tt;
@@ -68,7 +67,7 @@ returns-then-visits-n c =
     let what : Asks = asks c.args.edition c.args.limit c.args.abstract_mode c.args.input.now in
     let held : Lends = lends c.args.stack.now c.args.kinds.now c.args.values.now c.args.visits.now c.args.unvisited.now in
     let k = edition_known c.args.edition c.in_ok-known.ensures in
-    let valid : let a = c.args in valid_of (edition_of a.edition) a.n a.rows.now a.exits.now ≡ true = rw k.1 at (sym c.valid.ensures ∙ c.if-not-valid.false) in
+    let valid : let a = c.args in valid_of (edition_of a.edition) a.n a.rows.now a.exits.now ≡ true = rw k.1 at c.in_ok-table.ensures.0 in
     let limited : eqb c.args.limit uncountable ≡ false = ne_eqb c.args.limit uncountable c.if-limit-eq-UNCOUNTABLE.false in
     let a = c.args in record {
       outcome = refuses a.n a.rows.now a.exits.now what held (short k.0 valid limited (rw (lt-ltb (length held.visits) a.n c.if-visits-n.true) refl));
@@ -80,7 +79,7 @@ returns-then-unvisited-n c =
     let what : Asks = asks c.args.edition c.args.limit c.args.abstract_mode c.args.input.now in
     let held : Lends = lends c.args.stack.now c.args.kinds.now c.args.values.now c.args.visits.now c.args.unvisited.now in
     let k = edition_known c.args.edition c.in_ok-known.ensures in
-    let valid : let a = c.args in valid_of (edition_of a.edition) a.n a.rows.now a.exits.now ≡ true = rw k.1 at (sym c.valid.ensures ∙ c.if-not-valid.false) in
+    let valid : let a = c.args in valid_of (edition_of a.edition) a.n a.rows.now a.exits.now ≡ true = rw k.1 at c.in_ok-table.ensures.0 in
     let limited : eqb c.args.limit uncountable ≡ false = ne_eqb c.args.limit uncountable c.if-limit-eq-UNCOUNTABLE.false in
     let a = c.args in record {
       outcome = refuses a.n a.rows.now a.exits.now what held (short k.0 valid limited (rw (le-ltb (length held.visits) a.n c.if-visits-n.false, lt-ltb (length held.unvisited) a.n c.if-unvisited-n.true) refl));
@@ -89,18 +88,12 @@ returns-then-unvisited-n c =
 
 pub count_visits-ended-requires : goal.count_visits-ended-requires
 count_visits-ended-requires c =
-    let k = edition_known c.args.edition c.in_ok-known.ensures in
-    let valid : let a = c.args in valid_of (edition_of a.edition) a.n a.rows.now a.exits.now ≡ true = rw k.1 at (sym c.valid.ensures ∙ c.if-not-valid.false) in
-    let good : let a = c.args in Good a.n a.rows.now a.exits.now = let a = c.args in good_of (edition_of a.edition) a.n a.rows.now a.exits.now valid in
-    record {
-      good = good;
-      n_in_bounds = (c.if-visits-n.false, omega (arith, c.ranges.limit.fits, c.if-limit-eq-UNCOUNTABLE.false));
-    }
+    record { n_in_bounds = (rw c.in_ok-table.ensures.1 c.if-visits-n.false, omega (arith, c.ranges.limit.fits, c.if-limit-eq-UNCOUNTABLE.false)) }
 
 pub list_unvisited-missed-requires : goal.list_unvisited-missed-requires
 list_unvisited-missed-requires c =
     let k = edition_known c.args.edition c.in_ok-known.ensures in
-    let valid : let a = c.args in valid_of (edition_of a.edition) a.n a.rows.now a.exits.now ≡ true = rw k.1 at (sym c.valid.ensures ∙ c.if-not-valid.false) in
+    let valid : let a = c.args in valid_of (edition_of a.edition) a.n a.rows.now a.exits.now ≡ true = rw k.1 at c.in_ok-table.ensures.0 in
     let good : let a = c.args in Good a.n a.rows.now a.exits.now = let a = c.args in good_of (edition_of a.edition) a.n a.rows.now a.exits.now valid in
     let g = good in
     record {
@@ -113,11 +106,12 @@ returns c =
     let what : Asks = asks c.args.edition c.args.limit c.args.abstract_mode c.args.input.now in
     let held : Lends = lends c.args.stack.now c.args.kinds.now c.args.values.now c.args.visits.now c.args.unvisited.now in
     let k = edition_known c.args.edition c.in_ok-known.ensures in
-    let valid : let a = c.args in valid_of (edition_of a.edition) a.n a.rows.now a.exits.now ≡ true = rw k.1 at (sym c.valid.ensures ∙ c.if-not-valid.false) in
+    let valid : let a = c.args in valid_of (edition_of a.edition) a.n a.rows.now a.exits.now ≡ true = rw k.1 at c.in_ok-table.ensures.0 in
     let limited : eqb c.args.limit uncountable ≡ false = ne_eqb c.args.limit uncountable c.if-limit-eq-UNCOUNTABLE.false in
     let roomy : too_short c.args.n held ≡ false =
     rw (le-ltb (length held.visits) c.args.n c.if-visits-n.false, le-ltb (length held.unvisited) c.args.n c.if-unvisited-n.false) refl in
     let good : let a = c.args in Good a.n a.rows.now a.exits.now = let a = c.args in good_of (edition_of a.edition) a.n a.rows.now a.exits.now valid in
+    let t = c.in_ok-table.ensures in
     let u = c.list_unvisited-missed in
     let r = c.count_visits-ended in
     let n = c.args.n in
@@ -130,7 +124,7 @@ returns c =
     let long : AsLong l' l = record { stack = r.auto.stack; kinds = r.auto.kinds; values = r.auto.values } in
     let g : Edition → Given = λ e. given (record { edition = e; limit = c.args.limit; abstract_mode = c.args.abstract_mode }) c.args.input.now in
     let ran = subst (λ (e : Edition). Started n rows exits (g e) l l' r.result × Counted n (job_of rows exits (g e) l) v v')
-    k.1 (r.ensures.started, r.ensures.counted) in
+    k.1 (rw (t.1, t.2, t.3) at r.ensures.started, rw (t.1, t.2, t.3) at r.ensures.counted) in
     let entered = regions_of place.start ran.1.history.exits in
     let same = list_same n rows (λ i. get_or v' i 0) (λ i. count i entered) (counts_held n entered v ran.1.cells) in
     let e = settled n (end_of rows exits (given_of what) l) l' l r.result long ran.0 in record {

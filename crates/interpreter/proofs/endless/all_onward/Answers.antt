@@ -10,7 +10,7 @@ loop-i-init c = every_none _
 
 pub onward-requires : goal.onward-requires
 onward-requires c =
-    let the-pre = c.requires in (
+    let the-pre = c.args.table.good in (
       omega (arith, the-pre.few, c.loop-i-test.true),
       omega (arith, the-pre.rows_fit, c.loop-i-test.true),
       omega (arith, the-pre.exits_fit, c.loop-i-test.true),
@@ -20,19 +20,19 @@ pub returns-then-not-onward : goal.returns-then-not-onward
 returns-then-not-onward c =
     let the-args = c.args in
     let the-loop = c.loop-i in
-    let on = onward the-args.rows.now the-args.exits.now in
-    sym (every_not on the-loop.i the-args.n (omega arith) (sym c.onward.ensures ∙ c.if-not-onward.true))
+    let on = onward the-args.table.rows.now the-args.table.exits.now in
+    sym (every_not on the-loop.i the-args.table.n (omega arith) (sym c.onward.ensures ∙ c.if-not-onward.true))
 
 pub loop-i-preserved : goal.loop-i-preserved
 loop-i-preserved c =
     let the-args = c.args in
     let the-loop = c.loop-i in
-    let on = onward the-args.rows.now the-args.exits.now in
+    let on = onward the-args.table.rows.now the-args.table.exits.now in
     every_more on the-loop.i (sym c.onward.ensures ∙ c.if-not-onward.false) the-loop.invariant
 
 pub returns : goal.returns
 returns c =
     let the-args = c.args in
-    let on = onward the-args.rows.now the-args.exits.now in
-    let e : c.loop-i.i ≡ the-args.n = omega (arith, c.loop-i.auto.i-end, c.loop-i-test.false) in
+    let on = onward the-args.table.rows.now the-args.table.exits.now in
+    let e : c.loop-i.i ≡ the-args.table.n = omega (arith, c.loop-i.auto.i-end, c.loop-i-test.false) in
     sym (ap (every on) (sym e) ∙ c.loop-i.invariant)

@@ -6,4 +6,4 @@ use Rattle.interpreter.specs.Table.{every}
 use Rattle.interpreter.proofs.endless.all_onward.Given as goal
 
 abbrev pub invariant-loop-i : goal.invariant-loop-i
-invariant-loop-i l = every (onward l.rows l.exits) l.i ≡ true
+invariant-loop-i l = every (onward l.table.rows.now l.table.exits.now) l.i ≡ true

@@ -1,24 +1,17 @@
--- `interpreter::endless::determine_runs_forever` meets its contract. A table that is not refused may be relied on. Assumes nothing.
-use mathlib.Core.Path.{sym, ◌∙◌}
-use Rattle.base.specs.declared.edition.Edition.TheVariants.{Rust}
-use Rattle.interpreter.proofs.ValidLaws.{good_of}
+-- `interpreter::endless::determine_runs_forever` meets its contract: the table that is checked is the one lent. Assumes nothing.
+use mathlib.Core.Path.{sym}
+use Rattle.std.proofs.lemmas.Result.{err_from_is_err_and}
 use Rattle.interpreter.proofs.Answering.{forever_refuses, forever_is}
 use Rattle.interpreter.proofs.endless.determine_runs_forever.Goals as goal
 
-pub returns-then-not-valid : goal.returns-then-not-valid
-returns-then-not-valid c =
+pub returns-in_err-table : goal.returns-in_err-table
+returns-in_err-table c =
     let a = c.args in
-    let v = c.valid in
-    forever_refuses a.n a.rows.now a.exits.now (sym v.ensures ∙ c.if-not-valid.true)
-
-pub all_onward-requires : goal.all_onward-requires
-all_onward-requires c =
-    let a = c.args in
-    let v = c.valid in
-    good_of Rust a.n a.rows.now a.exits.now (sym v.ensures ∙ c.if-not-valid.false)
+    let p = err_from_is_err_and c.from_residual.result c.from_residual.ensures.1 in
+    rw (p.1, p.2, c.in_err-table.ensures.1) (forever_refuses a.n a.rows.now a.exits.now c.in_err-table.ensures.0)
 
 pub returns : goal.returns
 returns c =
     let a = c.args in
-    let v = c.valid in
-    forever_is a.n a.rows.now a.exits.now _ (sym v.ensures ∙ c.if-not-valid.false) (sym c.all_onward.ensures)
+    let t = c.in_ok-table.ensures in
+    forever_is a.n a.rows.now a.exits.now _ t.0 (sym (rw (t.1, t.2, t.3) at c.all_onward.ensures))

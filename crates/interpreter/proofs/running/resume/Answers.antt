@@ -12,7 +12,6 @@ slice_bounds-resume_observed-end-2 c = refl
 pub resume_observed-requires : goal.resume_observed-requires
 resume_observed-requires c =
     record {
-      good = c.requires.good;
       placed = c.requires.placed;
       judged_in = c.requires.judged_in;
       can_count = λ r h k. absurd (omega arith);

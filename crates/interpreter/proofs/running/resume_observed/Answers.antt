@@ -16,13 +16,12 @@ pub loop-at-init : goal.loop-at-init
 loop-at-init c =
     let what : Given = given c.args.terms c.args.input.now in
     let held : Slices = slices c.args.stack.now c.args.kinds.now c.args.values.now in
-    observes_start c.args.n c.args.rows.now c.args.exits.now what held c.args.from c.args.visits.now c.args.taken.now c.requires.placed c.requires.judged_in
+    observes_start c.args.table.n c.args.table.rows.now c.args.table.exits.now what held c.args.from c.args.visits.now c.args.taken.now c.requires.placed c.requires.judged_in
 
 pub step-requires : goal.step-requires
 step-requires c =
     let a = c.loop-at.invariant.along in
     record {
-      good = c.requires.good;
       placed = a.placed;
       judged_in = a.judged;
       steps_bound = omega (arith, c.loop-at-test.true, c.struct_known-in-loop-at-1.given.0);
@@ -35,10 +34,10 @@ count_visit-requires c =
     let held : Slices = slices c.args.stack.now c.args.kinds.now c.args.values.now in
     let standing : Slices = let l = c.loop-at in slices l.stack l.kinds l.values in
     let left : Slices = slices c.step.new.stack c.step.new.kinds c.step.new.values in
-    let gone : Stepped c.args.n c.args.rows.now c.args.exits.now what standing c.loop-at.at left (Ok c.in-Ok.moved) = rw c.in-Ok.is at c.step.ensures in
-    let reached : Placed c.args.n left c.in-Ok.moved.next × (c.in-Ok.moved.next.steps ≡ c.loop-at.at.steps + 1) = (gone.leaves.0, gone.leaves.1) in
+    let gone : Stepped c.args.table.n c.args.table.rows.now c.args.table.exits.now what standing c.loop-at.at left (Ok c.in-Ok.moved) = rw c.in-Ok.is at c.step.ensures in
+    let reached : Placed c.args.table.n left c.in-Ok.moved.next × (c.in-Ok.moved.next.steps ≡ c.loop-at.at.steps + 1) = (gone.leaves.0, gone.leaves.1) in
     λ h.
-    observes_room c.args.n c.args.rows.now c.args.exits.now what held c.args.from c.args.visits.now c.args.taken.now c.loop-at.invariant c.requires.can_count
+    observes_room c.args.table.n c.args.table.rows.now c.args.table.exits.now what held c.args.from c.args.visits.now c.args.taken.now c.loop-at.invariant c.requires.can_count
     c.loop-at-test.true c.in-Ok.moved.next.region reached.0.inside h
 
 pub loop-at-smaller : goal.loop-at-smaller
@@ -47,8 +46,8 @@ loop-at-smaller c =
     let what : Given = given c.args.terms c.args.input.now in
     let standing : Slices = let l = c.loop-at in slices l.stack l.kinds l.values in
     let left : Slices = slices c.step.new.stack c.step.new.kinds c.step.new.values in
-    let gone : Stepped c.args.n c.args.rows.now c.args.exits.now what standing c.loop-at.at left (Ok c.in-Ok.moved) = rw c.in-Ok.is at c.step.ensures in
-    let reached : Placed c.args.n left c.in-Ok.moved.next × (c.in-Ok.moved.next.steps ≡ c.loop-at.at.steps + 1) = (gone.leaves.0, gone.leaves.1) in
+    let gone : Stepped c.args.table.n c.args.table.rows.now c.args.table.exits.now what standing c.loop-at.at left (Ok c.in-Ok.moved) = rw c.in-Ok.is at c.step.ensures in
+    let reached : Placed c.args.table.n left c.in-Ok.moved.next × (c.in-Ok.moved.next.steps ≡ c.loop-at.at.steps + 1) = (gone.leaves.0, gone.leaves.1) in
     omega (arith, c.loop-at-test.true, reached.1)
 
 pub loop-at-preserved : goal.loop-at-preserved
@@ -58,9 +57,9 @@ loop-at-preserved c =
     let standing : Slices = let l = c.loop-at in slices l.stack l.kinds l.values in
     let left : Slices = slices c.step.new.stack c.step.new.kinds c.step.new.values in
     let long : AsLong left standing = record { stack = c.step.auto.stack; kinds = c.step.auto.kinds; values = c.step.auto.values } in
-    let gone : Stepped c.args.n c.args.rows.now c.args.exits.now what standing c.loop-at.at left (Ok c.in-Ok.moved) = rw c.in-Ok.is at c.step.ensures in
+    let gone : Stepped c.args.table.n c.args.table.rows.now c.args.table.exits.now what standing c.loop-at.at left (Ok c.in-Ok.moved) = rw c.in-Ok.is at c.step.ensures in
     rw (c.keep_exit.ensures, c.count_visit.ensures)
-    (observes_next c.args.n c.args.rows.now c.args.exits.now what held c.args.from c.args.visits.now c.args.taken.now c.loop-at.invariant
+    (observes_next c.args.table.n c.args.table.rows.now c.args.table.exits.now what held c.args.from c.args.visits.now c.args.taken.now c.loop-at.invariant
     c.loop-at-test.true gone long)
 
 pub shape_of-stack-in-Err : goal.shape_of-stack-in-Err
@@ -97,11 +96,11 @@ returns-in-Err c =
     let held : Slices = slices c.args.stack.now c.args.kinds.now c.args.values.now in
     let x = c.step in
     let e = rw c.in-Err.is at x.ensures in
-    let q = ends_halted c.args.n c.args.rows.now c.args.exits.now what held c.args.from c.loop-at.invariant.along
+    let q = ends_halted c.args.table.n c.args.table.rows.now c.args.table.exits.now what held c.args.from c.loop-at.invariant.along
     c.in-Err.stop c.loop-at-test.true e in
     record {
       resumed = q;
-      observed_from = observes_end c.args.n c.args.rows.now c.args.exits.now what held c.args.from c.args.visits.now c.args.taken.now c.loop-at.invariant
+      observed_from = observes_end c.args.table.n c.args.table.rows.now c.args.table.exits.now what held c.args.from c.args.visits.now c.args.taken.now c.loop-at.invariant
           (ap (λ (y : Slices). machine_of y c.loop-at.at) e.leaves) q;
     }
 
@@ -124,5 +123,5 @@ pub returns : goal.returns
 returns c =
     let what : Given = given c.args.terms c.args.input.now in
     let held : Slices = slices c.args.stack.now c.args.kinds.now c.args.values.now in
-    let q = ends_limit c.args.n c.args.rows.now c.args.exits.now what held c.args.from c.loop-at.invariant.along c.loop-at-test.false in
-    record { resumed = q; observed_from = observes_end c.args.n c.args.rows.now c.args.exits.now what held c.args.from c.args.visits.now c.args.taken.now c.loop-at.invariant refl q }
+    let q = ends_limit c.args.table.n c.args.table.rows.now c.args.table.exits.now what held c.args.from c.loop-at.invariant.along c.loop-at-test.false in
+    record { resumed = q; observed_from = observes_end c.args.table.n c.args.table.rows.now c.args.table.exits.now what held c.args.from c.args.visits.now c.args.taken.now c.loop-at.invariant refl q }

@@ -1,5 +1,5 @@
 -- `interpreter::running::run_history` meets its contract. What the slices hold at the end is what the definition says of every cell. Assumes nothing.
-use mathlib.Core.Path.{◌≡◌, refl, sym, subst, ◌∙◌}
+use mathlib.Core.Path.{◌≡◌, refl, subst}
 use mathlib.Core.Bool.{true}
 use mathlib.Core.List.{[]}
 use native.Mathlib.Omega.{arith}
@@ -34,35 +34,34 @@ returns-in_err-known c =
       resumable = tt;
     })
 
-pub returns-then-not-valid : goal.returns-then-not-valid
-returns-then-not-valid c =
+pub returns-in_err-table : goal.returns-in_err-table
+returns-in_err-table c =
     let what : Asks = asks c.args.edition c.args.limit c.args.abstract_mode c.args.input.now in
     let held : Slices = slices c.args.stack.now c.args.kinds.now c.args.values.now in
     let a = c.args in
+    let p = err_from_is_err_and c.from_residual-in_err-table.result c.from_residual-in_err-table.ensures.1 in
     let k = edition_known a.edition c.in_ok-known.ensures in
-    record {
+    let wrong = c.in_err-table.ensures in
+    rw (p.1, p.2, wrong.1) (record {
       recorded = record_refuses a.n a.rows.now a.exits.now what held a.taken.now Table
-          (answer_wrong a.n a.rows.now a.exits.now what held k.0 (rw k.1 at (sym c.valid.ensures ∙ c.if-not-valid.true)));
+          (answer_wrong a.n a.rows.now a.exits.now what held k.0 (rw k.1 at wrong.0));
       resumable = tt;
-    }
+    })
 
 pub slice_bounds-run_observed-end : goal.slice_bounds-run_observed-end
 slice_bounds-run_observed-end c = refl
 
 -- there are no cells to count in
 pub run_observed-requires : goal.run_observed-requires
-run_observed-requires c =
-    let k = edition_known c.args.edition c.in_ok-known.ensures in
-    let right : let a = c.args in valid_of (edition_of a.edition) a.n a.rows.now a.exits.now ≡ true = rw k.1 at (sym c.valid.ensures ∙ c.if-not-valid.false) in
-    let a = c.args in
-    record { good = good_of (edition_of a.edition) a.n a.rows.now a.exits.now right; can_count = λ r h k. absurd (omega arith) }
+run_observed-requires c = record { can_count = λ r h k. absurd (omega arith) }
 
 pub returns : goal.returns
 returns c =
     let what : Asks = asks c.args.edition c.args.limit c.args.abstract_mode c.args.input.now in
     let held : Slices = slices c.args.stack.now c.args.kinds.now c.args.values.now in
     let k = edition_known c.args.edition c.in_ok-known.ensures in
-    let right : let a = c.args in valid_of (edition_of a.edition) a.n a.rows.now a.exits.now ≡ true = rw k.1 at (sym c.valid.ensures ∙ c.if-not-valid.false) in
+    let right : let a = c.args in valid_of (edition_of a.edition) a.n a.rows.now a.exits.now ≡ true = rw k.1 at c.in_ok-table.ensures.0 in
+    let t = c.in_ok-table.ensures in
     let r = c.run_observed in
     let n = c.args.n in
     let rows = c.args.rows.now in
@@ -76,7 +75,7 @@ returns c =
     (λ (e : Edition).
     let g = given (record { edition = e; limit = c.args.limit; abstract_mode = c.args.abstract_mode }) c.args.input.now in
     Started n rows exits g held l' r.result × ObservedAll rows exits g held [] r.new.visits taken taken')
-    k.1 (r.ensures.started, r.ensures.observed_all) in
+    k.1 (rw (t.1, t.2, t.3) at r.ensures.started, rw (t.2, t.3) at r.ensures.observed_all) in
     let e = settled n (end_of rows exits (given_of what) held) l' held r.result long ran.0 in
     let done = answer_right n rows exits what held k.0 right in
     record {

@@ -18,8 +18,7 @@ resume_observed-requires c =
     let b = c.begin-from in
     let limit = c.args.terms.limit in
     record {
-      good = c.requires.good;
-      placed = begun_placed b.ensures c.args.n c.requires.good.some;
+      placed = begun_placed b.ensures c.args.table.n c.args.table.good.some;
       judged_in = begun_judged b.ensures what;
       can_count = λ r h k. omega (arith, c.requires.can_count r h k, at_most limit b.result.steps);
     }
@@ -33,10 +32,10 @@ returns c =
     let held : Slices = slices c.args.stack.now c.args.kinds.now c.args.values.now in
     let long : AsLong (slices c.begin-from.new.stack c.begin-from.new.kinds c.begin-from.new.values) held = record { stack = c.begin-from.auto.stack; kinds = c.begin-from.auto.kinds; values = c.begin-from.auto.values } in
     let r = c.resume_observed in
-    let rows = c.args.rows.now in
-    let exits = c.args.exits.now in
+    let rows = c.args.table.rows.now in
+    let exits = c.args.table.exits.now in
     let l' = slices r.new.stack r.new.kinds r.new.values in
     record {
-      started = subst (λ (e : End). Reaches c.args.n e l' r.result) (begun_run c.begin-from.ensures rows exits what long) r.ensures.resumed;
+      started = subst (λ (e : End). Reaches c.args.table.n e l' r.result) (begun_run c.begin-from.ensures rows exits what long) r.ensures.resumed;
       observed_all = observed_begun rows exits what c.begin-from.ensures long r.ensures.observed_from;
     }

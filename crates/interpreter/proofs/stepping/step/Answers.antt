@@ -11,13 +11,13 @@ pub returns-then-core : goal.returns-then-core
 returns-then-core c =
     let what : Given = given c.args.terms c.args.input.now in
     let held : Slices = slices c.args.stack.now c.args.kinds.now c.args.values.now in
-    needs_input c.args.rows.now c.args.exits.now what c.args.n held c.args.at c.if-core.true
+    needs_input c.args.table.rows.now c.args.table.exits.now what c.args.table.n held c.args.at c.if-core.true
 
 pub returns-then-ends : goal.returns-then-ends
 returns-then-ends c =
     let what : Given = given c.args.terms c.args.input.now in
     let held : Slices = slices c.args.stack.now c.args.kinds.now c.args.values.now in
-    completed c.args.rows.now c.args.exits.now what c.args.n held c.args.at c.if-core.false
+    completed c.args.table.rows.now c.args.table.exits.now what c.args.table.n held c.args.at c.if-core.false
     c.open_exit-w.result c.open_exit-w.ensures (sym c.ends.ensures ∙ c.if-ends.true)
 
 pub go_through-requires : goal.go_through-requires
@@ -25,12 +25,12 @@ go_through-requires c =
     let going : ends c.open_exit-w.result ≡ false = sym c.ends.ensures ∙ c.if-ends.false in
     let p = c.requires in
     record {
-      n_bound = (p.good.few, p.good.rows_fit);
+      n_bound = (c.args.table.good.few, c.args.table.good.rows_fit);
       placed = p.placed;
       judged_in = p.judged_in;
       w_nonzero = (
         some_exit _ going,
-        rw c.open_exit-w.ensures (inside_exit p.good _ _ p.placed.stands.valid p.placed.inside),
+        rw c.open_exit-w.ensures (inside_exit c.args.table.good _ _ p.placed.stands.valid p.placed.inside),
         p.steps_bound,
       );
     }
@@ -41,6 +41,6 @@ returns c =
     let held : Slices = slices c.args.stack.now c.args.kinds.now c.args.values.now in
     let going : ends c.open_exit-w.result ≡ false = sym c.ends.ensures ∙ c.if-ends.false in
     let w = c.go_through in
-    taken c.args.rows.now c.args.exits.now what c.args.n held c.args.at c.if-core.false c.open_exit-w.result
+    taken c.args.table.rows.now c.args.table.exits.now what c.args.table.n held c.args.at c.if-core.false c.open_exit-w.result
     c.open_exit-w.ensures (slices w.new.stack w.new.kinds w.new.values) w.result
-    going (w.ensures c.args.exits.now)
+    going (w.ensures c.args.table.exits.now)

@@ -14,8 +14,7 @@ run_observed-requires c =
     let f = c.fill in
     let p = c.requires in
     record {
-      good = p.good;
-      can_count = countable c.args.n c.args.visits.now f.new.d p.good.some p.n_in_bounds.0 f.ensures c.args.terms.limit p.n_in_bounds.1;
+      can_count = countable c.args.table.n c.args.visits.now f.new.d c.args.table.good.some p.n_in_bounds.0 f.ensures c.args.terms.limit p.n_in_bounds.1;
     }
 
 pub shape_of-visits : goal.shape_of-visits
@@ -28,5 +27,5 @@ returns c =
     let f = c.fill in
     let p = c.requires in record {
       started = c.run_observed.ensures.started;
-      counted = counted c.args.n c.args.visits.now f.new.d p.good.some p.n_in_bounds.0 f.ensures (given c.args.terms c.args.input.now) (slices c.args.stack.now c.args.kinds.now c.args.values.now) p.good (c.run_observed.auto.visits ∙ length-set f.new.d 0 _ ∙ f.auto.d) c.run_observed.ensures.observed_all;
+      counted = counted c.args.table.n c.args.visits.now f.new.d c.args.table.good.some p.n_in_bounds.0 f.ensures (given c.args.terms c.args.input.now) (slices c.args.stack.now c.args.kinds.now c.args.values.now) c.args.table.good (c.run_observed.auto.visits ∙ length-set f.new.d 0 _ ∙ f.auto.d) c.run_observed.ensures.observed_all;
     }
