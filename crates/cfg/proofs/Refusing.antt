@@ -200,6 +200,9 @@ picture_none_refused p m r e w v h =
     let i = passed _ 3 _ v _ _ g.1 in
     sym h ∙ i.1 ∙ no_row _
 
+pub none_refused : (n : ℕ) (p : Picture) (m r e w : ℕ) (v : List ℕ) → numbers 0 v ≡ refusal n p m r e w → refusal n p m r e w ≡ numbers 0 (0 ∷ 0 ∷ [])
+none_refused n p m r e w v h = let k = past_edition n p m r e w v h in sym h ∙ k ∙ picture_none_refused p m r e w v k
+
 -- the parts that are lent, and the slices that come back
 pub sized_parts : {p : Picture} (map rows exits work : List ℕ) (k : ℕ) → k ≡ codels p → Enough p (length map) (length rows) (length exits) (length work)
     → Sized p (take k map) (take (rows_room k) rows) (take (exits_room k) exits) (take k work)

@@ -3,6 +3,7 @@
 --     run_refuses, run_finishes    what `run` answers and leaves is its outcome
 --     record_refuses, record_finishes, recorded    the same of `run_history`
 --     refuses, finishes            and the other way round: what its outcome says
+--     status_some                  no status is 0
 --     result-cells                 a result has as many numbers as its cells say
 --     forever_refuses, forever_is  the answer of `determine_runs_forever`
 -- Assumes nothing.
@@ -11,13 +12,16 @@ use mathlib.Core.Bool.{Bool, true, false, cond}
 use mathlib.Core.List.{List, [], ◌∷◌}
 use Prim.Native.Nat.{ℕ}
 use lib.ListN.{length, replicate}
+use native.Mathlib.Omega.{arith}
 use borrow.Author.Tests.{not-true, not-false}
 use Rattle.base.specs.declared.edition.Edition.{Edition}
 use Rattle.base.specs.declared.edition.Edition.TheVariants.{Rust}
 use Rattle.base.specs.Edition.{unknown_edition, edition_of}
 use Rattle.base.specs.Numbers.{Numbers, numbers, row, first, unless_refused}
 use Rattle.base.proofs.Clash.{clash}
-use Rattle.machine.specs.Machine.{Asks, given_of}
+use Rattle.machine.specs.declared.Stop.{Stop}
+use Rattle.machine.specs.declared.Stop.TheVariants.{Completed, MaxSteps, NeedsInput, StackFull, OutputFull, BadInput}
+use Rattle.machine.specs.Machine.{Asks, given_of, status_of}
 use Rattle.machine.specs.Held.{Slices}
 use Rattle.machine.specs.Place.{start, End}
 use Rattle.interpreter.specs.declared.Ended.{Ended}
@@ -35,6 +39,15 @@ use Rattle.interpreter.proofs.Histories.{run_history}
 
 pub result-cells : (e : Ended) → length (result_of e) ≡ result_cells
 result-cells e = refl
+
+pub status_some : (s : Stop) → status_of s ≡ 0 → ⊥
+unfolding status_of
+status_some Completed e = omega arith
+status_some MaxSteps e = omega arith
+status_some NeedsInput e = omega arith
+status_some StackFull e = omega arith
+status_some OutputFull e = omega arith
+status_some BadInput e = omega arith
 
 module _ (n : ℕ) (rows exits : List ℕ) (a : Asks) (l : Slices) where
   abbrev end : End

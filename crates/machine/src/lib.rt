@@ -125,43 +125,29 @@ impl Core {
         Core { pointers, ..self }
     }
 
-    // The same with so many bytes of the input used.
-    fn at_used(self, used: usize) -> Core
+    // The same with so many bytes of the input used. Here and in the two below the field is set where it lies: with a
+    // struct update of the reading a step takes three times as long.
+    fn at_used(mut self, used: usize) -> Core
         ensures { result ≡ at_used used self }
     {
-        Core {
-            reading: Reading {
-                used,
-                ..self.reading
-            },
-            ..self
-        }
+        self.reading.used = used;
+        self
     }
 
     // The same with input awaited.
-    fn at_wait(self) -> Core
+    fn at_wait(mut self) -> Core
         ensures { result ≡ at_wait self }
     {
-        Core {
-            reading: Reading {
-                awaiting: true,
-                ..self.reading
-            },
-            ..self
-        }
+        self.reading.awaiting = true;
+        self
     }
 
     // The same with so many number lines skipped.
-    fn at_skips(self, skips: Skips) -> Core
+    fn at_skips(mut self, skips: Skips) -> Core
         ensures { result ≡ at_skips skips self }
     {
-        Core {
-            reading: Reading {
-                skips,
-                ..self.reading
-            },
-            ..self
-        }
+        self.reading.skips = skips;
+        self
     }
 }
 

@@ -17,9 +17,9 @@ pub struct Sides {
 // What stands before the pixels: the sides, up to the cap of a field's value, and where the pixels start.
 #[derive(Clone, Copy)]
 pub struct Heading {
-    height: usize,
-    width: usize,
-    start: usize,
+    pub height: usize,
+    pub width: usize,
+    pub start: usize,
 }
 
 // `P6`, 0x50 and 0x36, and what has to follow it.

@@ -195,7 +195,7 @@ impl Record<5> for Question {
             usize::from(height),
             usize::from(width),
             usize::from(codel),
-            u32::from(building),
+            stored::edition(building),
             &mut map,
             &mut rows,
             &mut exits,
@@ -208,7 +208,7 @@ impl Record<5> for Question {
                 exits: &exits,
             };
             let run = Run {
-                edition: u32::from(running),
+                edition: stored::edition(running),
                 limit: u64::from(u32::from_le_bytes([asked[0], asked[1], asked[2], asked[3]])),
                 abstract_mode: asked[4] == 1,
                 input,

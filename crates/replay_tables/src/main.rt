@@ -36,7 +36,7 @@ impl Record<4> for Picture {
             usize::from(height),
             usize::from(width),
             usize::from(codel),
-            u32::from(edition),
+            stored::edition(edition),
             &mut map,
             &mut rows,
             &mut exits,

@@ -1,19 +1,42 @@
 // The records of the replay programs, and how their cells are printed.
 #![tactic(auto)]
 
-ghost use Rattle.std.specs.Prelude.{◌≡◌, ◌+◌, ◌*◌, ◌<◌, ◌≤◌};
+ghost use Rattle.std.specs.Prelude.{◌≡◌, ◌+◌, ◌*◌, ◌<◌, ◌≤◌, length, get_or};
 
 use std::cmp::min;
 use std::fmt::Display;
 use std::io;
 use std::io::{BufWriter, Read, Write};
 
+pub fn wide(b: u8) -> usize
+    ensures same { result ≡ b }
+    ensures small { result ≤ 255 }
+{
+    usize::from(b)
+}
+
+// A byte as the number of an edition.
+pub fn edition(b: u8) -> u32
+    ensures { result ≡ b }
+{
+    u32::from(b)
+}
+
 // Two bytes as a number, the lower first.
 pub fn pair(low: u8, high: u8) -> usize
     ensures same { result ≡ low + 256 * high }
     ensures small { result < 65536 }
 {
-    usize::from(low) + 256 * usize::from(high)
+    wide(low) + 256 * wide(high)
+}
+
+// The same of the two that stand at an index.
+pub fn pair_at(records: &[u8], at: usize) -> usize
+    requires { at + 2 ≤ length records.now }
+    ensures same { result ≡ get_or records.now at 0 + 256 * get_or records.now (at + 1) 0 }
+    ensures small { result < 65536 }
+{
+    pair(records[at], records[at + 1])
 }
 
 // How many pixels a picture of such sides has.
@@ -21,7 +44,29 @@ pub fn area(height: u8, width: u8) -> usize
     ensures same { result ≡ height * width }
     ensures small { result ≤ 65025 }
 {
-    usize::from(height) * usize::from(width)
+    wide(height) * wide(width)
+}
+
+// Where a record ends that has so many bytes from `body` on; a cut one ends with the records.
+pub fn record_end(records: &[u8], body: usize, size: usize) -> usize
+    requires { body ≤ length records.now }
+    ensures above { body ≤ result }
+    ensures within { result ≤ length records.now }
+{
+    body + min(size, records.len() - body)
+}
+
+// Where the picture ends that stands after one or two bytes from an index on.
+pub fn picture_end(records: &[u8], at: usize, lead: usize) -> usize
+    requires { (at < length records.now) × (lead ≤ 2) }
+    ensures above { at < result }
+    ensures within { result ≤ length records.now }
+{
+    if records.len() - at < lead + 3 {
+        return records.len();
+    }
+    let start = at + lead;
+    record_end(records, start + 3, area(records[start], records[start + 1]))
 }
 
 // A kind of record: a head of so many bytes, and a body.
@@ -47,7 +92,7 @@ pub fn print_records<W: Write, K: Record<HEAD>, const HEAD: usize>(
 {
     let mut rest = records;
     while let Some((head, tail)) = rest.split_first_chunk::<HEAD>() {
-        let (body, next) = tail.split_at(min(K::size(head, tail), tail.len()));
+        let (body, next) = tail.split_at(record_end(tail, 0, K::size(head, tail)));
         K::print(out, head, body)?;
         rest = next;
     }
