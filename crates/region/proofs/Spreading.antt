@@ -1,5 +1,4 @@
 -- One codel's neighbours are numbered and queued, way by way.
---     spread_none    before the first way
 --     spread_more    one way more, by a visit of the codel that way
 -- Assumes nothing.
 use mathlib.Core.Path.{◌≡◌, sym, ap, ◌∙◌, subst}

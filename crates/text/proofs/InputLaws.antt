@@ -1,7 +1,7 @@
 -- What an input instruction takes of a line.
 --     take_none                        at the end of the input
 --     line_stays, char_stays           there reading goes on where it is, of IntIn and of CharIn
---     take_bad, take_skip, take_push   a line that is not UTF-8; that is skipped for a reason; that gives a number
+--     take_skip, take_push             a line that is skipped for a reason; that gives a number
 --     some_char                        a line that has a byte has a character
 --     int-of, char_of_lem                  what IntIn and CharIn read
 --     char-next                        where CharIn goes on

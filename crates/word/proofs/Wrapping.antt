@@ -1,4 +1,4 @@
--- Laws of wrapping: residues modulo 2^64 of sums, differences and products, and that wrapping leaves a number that fits as it is.
+-- Laws of wrapping: the bits of a number are its residue modulo 2^64, and wrapping leaves a number that fits as it is.
 use Rattle.std.proofs.Common.{◌≡◌, ℕ, zero, suc, ◌+◌, ◌-◌, ◌/◌, ◌%◌, ◌^◌, ◌<◌, ◌≤◌, Bool, true, false, cond, ltb, ℤ, pos, negsuc, neg_ℤ, sym, refl, ap, ◌∙◌, mod-lt, mod-eq_of_lt, mul_comm, div-lt_iff_lt-mul, div-le_self, arith, w64, SFits, to_z, of_z, nat_abs, ltb-false, ltb-true}
 use native.Mathlib.Nat.{mod_self, suc-mod}
 use lib.Signed.{mag, quot_z, rem_z}
