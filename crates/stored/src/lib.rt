@@ -52,6 +52,8 @@ pub fn record_end(records: &[u8], body: usize, size: usize) -> usize
     requires { body ≤ length records.now }
     ensures above { body ≤ result }
     ensures within { result ≤ length records.now }
+    ensures whole { body + size ≤ length records.now → result ≡ body + size }
+    ensures cut { length records.now < body + size → result ≡ length records.now }
 {
     body + min(size, records.len() - body)
 }
@@ -61,6 +63,8 @@ pub fn picture_end(records: &[u8], at: usize, lead: usize) -> usize
     requires { (at < length records.now) × (lead ≤ 2) }
     ensures above { at < result }
     ensures within { result ≤ length records.now }
+    ensures whole { at + lead + 3 + get_or records.now (at + lead) 0 * get_or records.now (at + lead + 1) 0 ≤ length records.now → result ≡ at + lead + 3 + get_or records.now (at + lead) 0 * get_or records.now (at + lead + 1) 0 }
+    ensures cut { length records.now < at + lead + 3 + get_or records.now (at + lead) 0 * get_or records.now (at + lead + 1) 0 → result ≡ length records.now }
 {
     if records.len() - at < lead + 3 {
         return records.len();
